@@ -33,6 +33,9 @@ import contracts
 # How many hexadecimal digits are listed of a digest by SHA-256.
 DIGITS = 16
 
+# How many columns a line of a crate may have.
+WIDTH = 100
+
 # A type that is shown as it is, by a derived implementation; and one that is shown by an
 # implementation of its own.
 SHOWN = re.compile(r"#\[derive\([^)]*\bDebug\b[^)]*\)\]\s*(?:#\[[^\]]*\]\s*)*"
@@ -447,6 +450,15 @@ def hindrance_faults():
             yield f"{path} has a comment in a comment"
 
 
+def width_faults():
+    """No line of the code, the definitions or the proofs is wider than a reader's window."""
+    proofs = files("crates/*/specs/**/*.antt") + files("crates/*/proofs/**/*.antt")
+    for path in sources() + proofs:
+        for number, line in enumerate(text_of(path).split("\n"), 1):
+            if len(line) > WIDTH:
+                yield f"{path}:{number} has {len(line)} columns, more than {WIDTH}"
+
+
 def verdict_faults():
     """The scripts that start all checks end with another status than 0 where one has failed."""
     for path, wanted in VERDICTS.items():
@@ -479,6 +491,7 @@ def faults():
     yield from argument_faults()
     yield from module_faults()
     yield from hindrance_faults()
+    yield from width_faults()
     yield from start_faults()
     yield from verdict_faults()
 

@@ -4,8 +4,8 @@ ghost use Rattle.ck_audit.specs.Replies.{replies_to};
 
 use ck_journal::{Answer, Body, Entries, Entry, Reply};
 
-/// The replies that are left for later entries, where the entry is another caller's or its reply
-/// is the first of them.
+/// The replies that are left for later entries, where the entry is another caller's or its reply is
+/// the first of them.
 fn replies_left<'a>(caller: u32, entry: &Entry, replies: &'a [Reply]) -> Option<&'a [Reply]>
     ensures left { IfSome result (λ left. (later : List Entry)
         → (replies.now ≡ replies_to caller (entry.now ∷ later))
@@ -43,6 +43,7 @@ pub fn are_same_replies(one: &Reply, other: &Reply) -> bool
     one.rv == other.rv && are_same_bodies(&one.body, &other.body)
 }
 
+/// Whether the two bodies are equal.
 fn are_same_bodies(one: &Body, other: &Body) -> bool
     ensures { IsTrue result ↔ (one.now ≡ other.now) }
 {
@@ -86,6 +87,7 @@ fn are_same_bodies(one: &Body, other: &Body) -> bool
     }
 }
 
+/// Whether the answers to queries are equal, one by one.
 fn are_same_answers(one: &[Answer], other: &[Answer]) -> bool
     ensures { IsTrue result ↔ (one.now ≡ other.now) }
 {
@@ -100,6 +102,7 @@ fn are_same_answers(one: &[Answer], other: &[Answer]) -> bool
     true
 }
 
+/// Whether the two answers are equal.
 fn is_same_answer(one: &Answer, other: &Answer) -> bool
     ensures { IsTrue result ↔ (one.now ≡ other.now) }
 {

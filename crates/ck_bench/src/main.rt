@@ -45,6 +45,7 @@ enum Request {
 }
 
 impl Request {
+    /// How many times it is measured; the least time counts.
     fn tries(self) -> u32 {
         match self {
             Request::All => 1,

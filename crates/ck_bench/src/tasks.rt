@@ -37,6 +37,7 @@ pub(crate) struct Task {
 }
 
 impl Task {
+    /// Makes this many rounds.
     pub(crate) fn new(round: Round, rounds: u64) -> Task {
         let rounds = Some(rounds);
         Task { round, rounds }
@@ -154,6 +155,7 @@ fn pause<R: Clock>(rt: &R) -> anyhow::Result<Duration> {
 }
 
 impl<'a> Tasks<'a> {
+    /// The tasks of callers, of which none is done.
     pub(crate) fn new(alloc: Global, tasks: &'a [Task]) -> Result<Tasks<'a>, NoMemory> {
         let message = Bytes::from_vec(vec![in alloc; 0u8; MESSAGE_LENGTH]?);
         let is_done = AtomicBool::new(false);

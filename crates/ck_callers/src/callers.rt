@@ -18,6 +18,7 @@ use std::marker::Model;
 #[derive(Drop)]
 pub struct Caller<K: TokenId> {
     account: Account<K>,
+    /// The history of its last reply. Only contracts read it.
     last: Front<K>,
     seen: KnownHistory<K>,
     reader: ReadHandle<BoardCopy<K>>,

@@ -41,8 +41,8 @@ impl<K: TokenId> Model for KnownHistory<K> {
         × KeepsBoard K.limits k.changed k.front };
 }
 
-/// The front that ends with the last call that may have changed the board: the one before, where
-/// the newest call leaves the board as it is.
+/// The front since which the board is the same: `before`, where the newest call keeps the board,
+/// else `front`.
 fn last_change<K: TokenId>(before: &Front<K>, front: &Front<K>, keeps_board: bool) -> Front<K>
     ensures { result ≡ (if keeps_board then before.now else front.now) }
 {

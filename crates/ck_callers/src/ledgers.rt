@@ -56,8 +56,8 @@ impl Model for NewLedgers {
         × (l.seven.parts ≡ 1) × (l.eight.parts ≡ 1) };
 }
 
-/// How many calls of each of the callers 1 to 8 were answered. The counts are only in the proofs:
-/// a book takes no bytes.
+/// How many calls of each of the callers 1 to 8 were answered. The counts are only in the proofs: a
+/// book takes no bytes.
 #[derive(Drop)]
 pub struct CallBooks<K: TokenId> {
     // A field for each caller, since each book has a type of its own: a ledger's name is a type.

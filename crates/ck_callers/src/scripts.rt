@@ -21,8 +21,8 @@ pub struct Script<K: TokenId, S: Drop = Call, A: Drop = Reply> {
 impl<K: TokenId, S: Drop, A: Drop> Script<K, S, A> {
     ghost use Rattle.std.specs.Prelude.{◌≡◌, [], false, Ok, IfOk, IfErr};
 
-    /// A script that is still to be run. Where there is no room for the replies, the caller and
-    /// the steps come back.
+    /// A script that is still to be run. Where there is no room for the replies, the caller and the
+    /// steps come back.
     pub fn new(
         alloc: Global,
         caller: Caller<K>,

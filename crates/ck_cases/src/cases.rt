@@ -59,6 +59,7 @@ struct CasePlayer<'a> {
 }
 
 impl<'a> CasePlayer<'a> {
+    /// A file of this name, of which no line was played.
     fn new(alloc: Global, name: &'a str, options: &PlayOptions) -> CasePlayer<'a> {
         let limits = options.limits.unwrap_or(Limits::largest());
         let rewritten = match options.output {

@@ -74,6 +74,7 @@ pub(crate) enum Action<'a> {
 }
 
 impl<'a> Action<'a> {
+    /// What a line says that isn't empty and is no comment.
     pub(crate) fn of(text: &'a str) -> Action<'a> {
         if text == "cut" {
             return Action::Cut;

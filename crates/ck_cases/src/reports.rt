@@ -16,6 +16,7 @@ struct Counts {
 }
 
 impl Counts {
+    /// Counts what was found.
     fn count(&mut self, finding: &Finding<'_>) {
         let count = match finding {
             Finding::Differs { .. } => &mut self.differ,
@@ -25,6 +26,7 @@ impl Counts {
         *count = count.saturating_add(1);
     }
 
+    /// How many things were found, which makes the file wrong.
     fn findings(&self) -> u64 {
         self.differ
             .saturating_add(self.bad)

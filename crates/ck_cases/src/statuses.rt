@@ -12,6 +12,7 @@ pub(crate) enum Status {
 }
 
 impl Status {
+    /// The status where all arguments and files could be read.
     pub(crate) fn of(is_right: bool) -> Status {
         if is_right {
             Status::Right

@@ -21,6 +21,7 @@ pub fn room_of(has_room: bool, room: u64) -> Option<u64>
     has_room.then_some(room)
 }
 
+/// The query that C gives.
 fn query_of(query: &Query) -> AttributeQuery
     ensures { result ≡ query_of query.now }
 {

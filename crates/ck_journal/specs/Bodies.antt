@@ -1,4 +1,4 @@
--- What a program reads off a reply
+-- What a program reads off a reply; no answer is defined by these
 use Rattle.std.specs.Prelude.{ℕ, List, Option, Some, None, Result, Ok, Err}
 use Rattle.ck_types.specs.declared.errors.RvError.{RvError}
 use Rattle.ck_types.specs.declared.return_codes.Rv.{Rv}

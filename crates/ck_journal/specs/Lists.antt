@@ -1,4 +1,4 @@
--- Lists
+-- Lists, for clauses about memory and for lemmas; no answer is defined by these
 use Rattle.std.specs.Prelude.{Bool, true, false, List, [], ◌∷◌, if◌then◌else◌}
 
 -- the list has no items

@@ -1,4 +1,4 @@
--- The bodies of replies
+-- Which bodies of replies have items, for clauses about memory; no answer is defined by this
 use Rattle.std.specs.Prelude.{Bool, false, not}
 use Rattle.ck_journal.specs.Lists.{is_empty}
 use Rattle.ck_journal.specs.declared.replies.Body.{Body}

@@ -1,4 +1,4 @@
--- Work on a call's message that is done before the call is made
+-- Work on a call's message that is done before the call is made; no answer depends on it
 use Rattle.std.specs.Prelude.{◌≡◌, ℕ, Bool, List, [], ◌++◌, Option, Some, None, ◌==◌, ◌||◌, not}
 use Rattle.std.specs.Prelude.{length, nat_le, option_map, if◌then◌else◌}
 use Rattle.std.specs.Option.{option_map_or}

@@ -99,10 +99,7 @@ impl Journal {
     pub fn entry(&self, number: u64) -> Option<&Entry>
         ensures { option_copied result ≡ entry_at self.now.history number }
     {
-        if number == 0 {
-            return None;
-        }
-        self.entries.get((number - 1) as usize)
+        self.entries.get(number.checked_sub(1)? as usize)
     }
 
     /// The entries one by one, the oldest first.

@@ -9,8 +9,8 @@ use Rattle.ck_types.specs.declared.errors.RvError.TheVariants as rv_error
 use Rattle.ck_mac.specs.Digests.{digest_of}
 use Rattle.ck_mac.specs.Padding.{with_zeros}
 
--- the key, or its digest where it is longer than a block, followed by zeros up to the block
--- (K0; FIPS 198-1, section 4, steps 1 to 3)
+-- the key, or its digest where it is longer than a block, followed by zeros up to the block (K0;
+-- FIPS 198-1, section 4, steps 1 to 3)
 unfoldable pub block_key : Hash → List ℕ → List ℕ
 block_key h key =
     with_zeros (block_length h)

@@ -5,6 +5,7 @@ use crate::tags::Tag;
 use ck_types::Hash;
 use sha2::{Digest, Sha224, Sha256, Sha384, Sha512};
 
+/// A hasher of the crate `sha2`.
 #[derive(Clone, Drop)]
 enum Hasher {
     Sha224(Sha224),

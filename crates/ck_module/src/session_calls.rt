@@ -91,8 +91,8 @@ pub extern "C" fn ospreyrack_get_token_info(
     place.call(alloc, caller, Call::GetTokenInfo)
 }
 
-/// C_SessionCancel (PKCS #11 Base 3.0, Session management functions). Where the token's
-/// journal has room, the call isn't out of memory.
+/// C_SessionCancel (PKCS #11 Base 3.0, Session management functions). Where the token's journal has
+/// room, the call isn't out of memory.
 #[unsafe(no_mangle)]
 pub extern "C" fn ospreyrack_session_cancel(
     alloc: Global,

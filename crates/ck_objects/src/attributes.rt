@@ -25,6 +25,7 @@ impl Class {
         }
     }
 
+    /// Whether it is a class of keys.
     pub(crate) fn is_key(self) -> bool
         ensures { result ≡ is_key_class self }
     {
@@ -204,7 +205,7 @@ impl Attribute {
         ensures { result ≡ permission class.Data purpose self }
     {
         match self {
-            Attribute::Class => { Some(matches!(purpose, Purpose::Create | Purpose::Generate)) }
+            Attribute::Class => Some(matches!(purpose, Purpose::Create | Purpose::Generate)),
             Attribute::Token
             | Attribute::Private
             | Attribute::Modifiable

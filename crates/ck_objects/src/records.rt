@@ -12,6 +12,7 @@ use ck_types::{NoMemory, RvError, error_if};
 use std::alloc::{AllocError, Global};
 use std::marker::Model;
 
+/// An object by its class.
 #[derive(Clone, Drop)]
 enum Object {
     Data(Data),
@@ -96,6 +97,7 @@ impl Record {
         Ok(Record::of_key(key))
     }
 
+    /// The attributes of a data object.
     fn of_data(object: Data) -> Record
         ensures { result ≡ data_items object }
     {
@@ -104,6 +106,7 @@ impl Record {
         }
     }
 
+    /// The attributes of a key.
     fn of_key(key: Key) -> Record
         ensures { result ≡ key_items key }
     {
@@ -319,6 +322,7 @@ impl Record {
         }
     }
 
+    /// The attribute of this type, where the object has it. Whether it may be read isn't asked.
     fn field(&self, kind: u64) -> Option<Field>
         ensures { option_map field_bytes result ≡ value_at self.now kind }
     {

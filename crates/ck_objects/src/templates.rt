@@ -15,8 +15,8 @@ use crate::items::{
 use crate::object_flags::{Placement, Protections};
 use ck_types::{RvError, Sequence, error_if};
 
-/// The attributes that a caller gives, in the caller's order (PKCS #11 Base 3.0,
-/// Object management functions).
+/// The attributes that a caller gives, in the caller's order (PKCS #11 Base 3.0, Object management
+/// functions).
 #[derive(Clone, Drop)]
 pub struct Template {
     pub items: Sequence<Item>,

@@ -18,7 +18,7 @@ pub enum PlayFault {
     Write,
     #[error("out of memory")]
     Memory,
-    /// The reader didn't come to its end in the reads ("turns") that it was allowed.
+    /// The reader didn't come to its end in as many reads as it may take ("turns").
     #[error("reader does not end")]
     Turns,
 }

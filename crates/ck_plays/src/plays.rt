@@ -51,6 +51,7 @@ pub fn play_with<G: JournaledToken, R: Source, W: Sink>(
     play_on(&mut player, alloc, reader, writer, &mut buffer, most)
 }
 
+/// Reads and answers until the source ends, in at most `most` reads.
 fn play_on<G: JournaledToken, R: Source, W: Sink>(
     player: &mut Player<G>,
     alloc: Global,

@@ -12,6 +12,7 @@ use std::alloc::Global;
 /// How many bytes one read asks for.
 const CHUNK: usize = 65_536;
 
+/// Room for the bytes of one read.
 pub(crate) fn new_buffer(alloc: Global) -> Result<Vec<u8>, NoMemory>
     ensures { IfOk result (λ buffer. length buffer.items ≡ CHUNK) }
 {

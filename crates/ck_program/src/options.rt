@@ -6,8 +6,8 @@ use std::alloc::AllocError;
 use std::io;
 use thiserror::Error;
 
-/// How many callers play a script in threads. The token that they share isn't made yet
-/// (ck_callers' `CallerCount` is of one that is).
+/// How many callers play a script in threads. The token that they share isn't made yet (ck_callers'
+/// `CallerCount` is of one that is).
 #[derive(Clone, Copy, Debug, PartialEq, Eq)]
 pub struct Callers {
     pub count: u32,

@@ -191,8 +191,8 @@ fn summary_of<G: JournaledToken>(alloc: Global, token: &G) -> Result<String, NoM
     }
 }
 
-/// Plays the calls of callers on a new token, those of each in a thread of its own. Gives how
-/// many entries the journal then has, and what its audit finds, each on a line.
+/// Plays the calls of callers on a new token, those of each in a thread of its own. Gives how many
+/// entries the journal then has, and what its audit finds, each on a line.
 pub(crate) fn play_calls<G: JournaledToken + Send, R: Runtime>(
     rt: R,
     alloc: Global,

@@ -135,6 +135,7 @@ fn check_script<K: TokenId>(alloc: Global, script: &AskingScript<K>) -> anyhow::
     Ok(answered)
 }
 
+/// The caller at this place, from 0.
 fn caller_at<K: TokenId>(
     callers: &mut [Caller<K>],
     index: usize,

@@ -94,6 +94,7 @@ pub(crate) struct Handles {
 }
 
 impl Handles {
+    /// No handle is known yet.
     pub(crate) fn new() -> Handles {
         Handles {
             session: AtomicU64::new(0),

@@ -69,6 +69,7 @@ impl<'a> Race<'a> {
         most.clamp(1, MOST_CALLERS)
     }
 
+    /// A race without calls.
     fn new(alloc: Global, number: u64) -> Race<'a> {
         Race {
             number,

@@ -6,6 +6,7 @@ use crate::races::{Race, RaceLine, compare, line_in};
 use ck_token::{Limits, Token};
 use std::alloc::Global;
 
+/// Makes a call, and looks whether its reply is that of the file.
 fn make_call(alloc: Global, token: &mut Token, line: &RaceLine) -> anyhow::Result<()> {
     let reply = token.call(alloc, line.caller, line.call.clone()?)?;
     compare(alloc, line, &reply)

@@ -40,6 +40,7 @@ struct WatchedToken {
 }
 
 impl WatchedToken {
+    /// This token, of which nothing is counted yet.
     fn of(token: Token) -> WatchedToken
         ensures { result.token ≡ token }
     {

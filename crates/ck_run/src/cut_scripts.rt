@@ -18,8 +18,8 @@ const LINES: [CallAndReply; 8] = [
     ("1 CloseSession 1", "b3"),
 ];
 
-/// Beginnings of the lines that are calls too. The first of the queries stands before the object
-/// is destroyed.
+/// Beginnings of the lines that are calls too. The first of the queries stands before the object is
+/// destroyed.
 const BEGINNINGS: [CallAndReply; 13] = [
     ("1 InitToken 31", "a2"),
     ("1 InitToken 3132", "a2"),

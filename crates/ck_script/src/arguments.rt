@@ -39,18 +39,21 @@ fn is_code_digit(byte: u8) -> bool
     matches!(byte, b'0'..=b'9' | b'a'..=b'f')
 }
 
+/// Whether the digits begin with a zero that could be left out.
 fn has_leading_zero(text: &[u8]) -> bool
     ensures { result ≡ has_leading_zero text.now }
 {
     text.len() > 1 && text[0] == b'0'
 }
 
+/// Whether all bytes are decimal digits.
 fn are_digits(text: &[u8]) -> bool
     ensures { result ≡ list_all is_ascii_digit text.now }
 {
     text.iter().all(|byte| byte.is_ascii_digit())
 }
 
+/// Whether all bytes are hexadecimal digits as codes have them.
 fn are_code_digits(text: &[u8]) -> bool
     ensures { result ≡ list_all is_code_digit text.now }
 {
@@ -97,6 +100,7 @@ fn code_number_in(text: &[u8]) -> Result<u64, BadLine>
     Ok(numeral_value(text, 16)?)
 }
 
+/// Whether it is `-`, which stands for nothing.
 fn is_dash(text: &[u8]) -> bool
     ensures { result ≡ is_dash text.now }
 {
@@ -136,6 +140,7 @@ pub(crate) trait Argument: Sized {
     // What its text means.
     ghost value_in: { List ℕ → Option Self };
 
+    /// The value that the text means.
     fn value_in(alloc: Global, text: &[u8]) -> Result<Self, LineError>
         ensures value { IfOk result (λ value. value_in text.now ≡ Some value) }
         ensures bad { IfErr result (λ e. (e ≡ LineError.Memory) ⊎ (value_in text.now ≡ None)) };

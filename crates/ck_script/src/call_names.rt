@@ -135,6 +135,7 @@ impl fmt::Display for CallName {
     }
 }
 
+/// The name, among these, that has this text.
 fn name_among(names: &[CallName], text: &[u8]) -> Option<CallName>
     ensures { result ≡ find (λ name. same_bytes name.1.now text.now) names.now }
 {

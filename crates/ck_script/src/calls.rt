@@ -125,6 +125,7 @@ impl<'a> Arguments<'a> {
     }
 }
 
+/// The call of these arguments.
 fn call_of(arguments: Arguments) -> Result<Call, LineError>
     ensures call { IfOk result (λ call.
         call_of arguments.entry.name.0 arguments.entry.words ≡ Some call) }

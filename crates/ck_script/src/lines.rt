@@ -68,6 +68,7 @@ fn caller_in(text: &[u8]) -> Option<u32>
     }
 }
 
+/// What the words of a line mean: a caller and its call.
 fn words_meaning(alloc: Global, mut words: Split) -> Result<Line, LineError>
     ensures line { IfOk result (λ line. words_meaning words.entry ≡ Some line) }
     ensures bad { IfErr result (λ e. (e ≡ LineError.Memory) ⊎ (words_meaning words.entry ≡ None)) }

@@ -242,8 +242,8 @@ impl Sessions {
         self.user = NO_PIN;
     }
 
-    /// Sets the normal user's PIN, as the security officer does; the user's wrong tries go back
-    /// to 0.
+    /// Sets the normal user's PIN, as the security officer does; the user's wrong tries go back to
+    /// 0.
     pub fn init_pin(&mut self, pin: Pin)
         ensures agree { (h : History) (e : Entry) (session : ℕ)
             → done e ≡ Some (call.InitPin session pin)

@@ -36,11 +36,12 @@ pub struct TakenMessage<K: TokenId> {
 /// How many times a thread looks whether the lock is free before it sleeps.
 const LOOKS: u32 = 11;
 
-/// How many of these looks follow one another at once, all within about a microsecond.
+/// How many of these looks, the first ones, follow one another at once. Together they take about a
+/// microsecond.
 const QUICK_LOOKS: u32 = 5;
 
-/// How many times a thread lets others run before the first of the later looks: together these take
-/// about 20 microseconds. Before each of the next looks it lets them run twice as many times.
+/// How many times a thread lets others run before the first of the later looks, which takes about
+/// 20 microseconds. Before each of the next looks it lets them run twice as many times.
 const YIELDS: u32 = 64;
 
 /// Lets other threads run this many times.

@@ -20,8 +20,8 @@ pub(crate) enum Ending {
 }
 
 impl Ending {
-    /// Whether it ends the objects of a list of the session: of that of private objects where
-    /// `private` is true, else of that of public ones.
+    /// Whether it ends the objects of this list of the session: its list of private objects, or
+    /// that of its public ones.
     pub(crate) fn concerns(self, session: u64, private: bool) -> bool
         ensures { result ≡ concerns self session private }
     {

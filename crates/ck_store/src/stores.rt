@@ -183,8 +183,8 @@ impl Store {
     // ---- changes, each made by a call that is answered CKR_OK
 
     /// Makes room for one more object, which any session may create. The newest object gets its
-    /// place in its session's list here, since this may take memory and a creation may not.
-    /// Where there is room already, this succeeds.
+    /// place in its session's list here, since this may take memory and a creation may not. Where
+    /// there is room already, this succeeds.
     pub fn reserve(&mut self) -> Result<(), NoMemory>
         ensures agree { (h : History) → StoreAgrees h self.old → StoreAgrees h self.new }
         ensures rows { self.new.rows ≡ self.old.rows }

@@ -237,8 +237,8 @@ impl Token {
     /// As `call`, with the work that `Token::work` began for this call and that is done. It counts
     /// only where the call's operation hasn't changed since; the reply and the entry are those of
     /// `call` in any case.
-    // Never inlined: else it is compiled twice, with work and without. Its parts then stay
-    // functions of their own, and short calls take longer.
+    // Never inlined: else it is compiled twice, with work and without. The functions that it calls
+    // then aren't inlined, and short calls take longer.
     #[inline(never)]
     pub fn call_after(
         &mut self,

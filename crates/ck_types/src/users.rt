@@ -11,8 +11,8 @@ pub enum UserType {
 }
 
 impl UserType {
-    /// The user with this number: CKU_SO is 0, CKU_USER is 1. `None` for any other number,
-    /// for which C_Login has the code CKR_USER_TYPE_INVALID.
+    /// The user with this number: CKU_SO is 0, CKU_USER is 1. `None` for any other number, for
+    /// which C_Login has the code CKR_USER_TYPE_INVALID.
     pub fn of(number: u64) -> Option<UserType>
         ensures { result ≡ user_of number }
     {

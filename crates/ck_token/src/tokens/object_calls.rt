@@ -103,11 +103,11 @@ impl Token {
     // ---- the calls
 
     /// C_CreateObject. Checks: CKR_SESSION_HANDLE_INVALID (b3); of the template
-    /// (`Template::check_creation`) CKR_ATTRIBUTE_TYPE_INVALID (12) or
-    /// CKR_ATTRIBUTE_VALUE_INVALID (13) item by item, CKR_TEMPLATE_INCONSISTENT (d1),
-    /// CKR_TEMPLATE_INCOMPLETE (d0) without a class, 12 or CKR_ATTRIBUTE_READ_ONLY (10) item by
-    /// item, and for a key d0 without a key type or a value, 13 for the length of the value; then
-    /// CKR_SESSION_READ_ONLY (b5), CKR_USER_NOT_LOGGED_IN (101), CKR_DEVICE_MEMORY (31).
+    /// (`Template::check_creation`) CKR_ATTRIBUTE_TYPE_INVALID (12) or CKR_ATTRIBUTE_VALUE_INVALID
+    /// (13) item by item, CKR_TEMPLATE_INCONSISTENT (d1), CKR_TEMPLATE_INCOMPLETE (d0) without a
+    /// class, 12 or CKR_ATTRIBUTE_READ_ONLY (10) item by item, and for a key d0 without a key type
+    /// or a value, 13 for the length of the value; then CKR_SESSION_READ_ONLY (b5),
+    /// CKR_USER_NOT_LOGGED_IN (101), CKR_DEVICE_MEMORY (31).
     pub(super) fn create_object(
         &self,
         alloc: Global,
@@ -129,9 +129,9 @@ impl Token {
     /// CKR_MECHANISM_PARAM_INVALID (71); of the template (`Template::check_generation`)
     /// CKR_ATTRIBUTE_TYPE_INVALID (12) or CKR_ATTRIBUTE_VALUE_INVALID (13) item by item,
     /// CKR_TEMPLATE_INCONSISTENT (d1) for two values of one type or another class, 12 or
-    /// CKR_ATTRIBUTE_READ_ONLY (10) item by item, CKR_TEMPLATE_INCOMPLETE (d0),
-    /// CKR_KEY_SIZE_RANGE (62), CKR_ARGUMENTS_BAD (7); then CKR_SESSION_READ_ONLY (b5),
-    /// CKR_USER_NOT_LOGGED_IN (101), CKR_DEVICE_MEMORY (31).
+    /// CKR_ATTRIBUTE_READ_ONLY (10) item by item, CKR_TEMPLATE_INCOMPLETE (d0), CKR_KEY_SIZE_RANGE
+    /// (62), CKR_ARGUMENTS_BAD (7); then CKR_SESSION_READ_ONLY (b5), CKR_USER_NOT_LOGGED_IN (101),
+    /// CKR_DEVICE_MEMORY (31).
     pub(super) fn generate_key(
         &self,
         alloc: Global,

@@ -159,8 +159,8 @@ impl Token {
             .ok_or(RvError::ObjectHandleInvalid)
     }
 
-    /// The number and the attributes of the key that the handle names, else
-    /// CKR_KEY_HANDLE_INVALID (60).
+    /// The number and the attributes of the key that the handle names, else CKR_KEY_HANDLE_INVALID
+    /// (60).
     pub(super) fn key(&self, handle: u64) -> Result<(u64, &Record), RvError>
         ensures number { IfOk result (λ found.
             object_named self.now.history handle ≡ Some found.0) }

@@ -3,8 +3,8 @@ use Rattle.std.specs.Vec.Iter.{into_iter_items}
 use Rattle.ck_program.specs.CallerCalls.{IsNewCaller, IsUnplayed, caller_numbers, script_numbers}
 use Rattle.ck_program.proofs.thread_plays.scripts_of.Given as goal
 
--- the scripts of the callers so far; those that are left have made no calls, and
--- are the callers of the other numbers
+-- the scripts of the callers so far; those that are left have made no calls, and are the callers of
+-- the other numbers
 abbrev pub invariant-loop-caller : goal.invariant-loop-caller
 invariant-loop-caller g l =
     (goal.iterator-loop-caller g).can_next l.caller-iterator
