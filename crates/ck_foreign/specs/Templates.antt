@@ -5,7 +5,7 @@ use Rattle.ck_objects.specs.declared.items.Item.{Item}
 use Rattle.ck_objects.specs.declared.templates.Template.{Template}
 use Rattle.ck_foreign.specs.declared.templates.TypeAndLength.{TypeAndLength}
 
--- each attribute takes as many bytes as its length says from the front of what is left
+-- each attribute takes as many bytes as its length says from the beginning of what is left
 abbrev pub items_of : List TypeAndLength → List ℕ → List Item
 items_of [] values = []
 items_of (a ∷ attributes) values =

@@ -15,7 +15,7 @@ pub use bodies::{
     QueryAnswer, SessionInfo, TokenInfo, answer_in, bytes_in, handle_in, handles_in, length_in,
     mechanisms_in, session_in, token_in, value_in,
 };
-pub use copies::copy_front;
+pub use copies::copy_out;
 pub use message_calls::MessageCall;
 pub use modules::Module;
 pub use outcomes::Outcome;

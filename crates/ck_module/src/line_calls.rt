@@ -3,7 +3,7 @@ ghost use Rattle.ck_foreign.specs.Calls.{IsLineOf, IsTextOf};
 ghost use Rattle.ck_foreign.specs.Copies.{filled_with};
 
 use crate::places::TokenPlace;
-use ck_foreign::copy_front;
+use ck_foreign::copy_out;
 use std::alloc::Global;
 
 /// Makes the call of a line of a script, which stands here without its line end.
@@ -31,5 +31,5 @@ pub extern "C" fn ospreyrack_text(place: &mut TokenPlace, out: &mut [u8]) -> usi
     ensures copied { out.new ≡ filled_with place.old.value.text.items out.old }
     ensures unchanged { place.new.value ≡ place.old.value }
 {
-    copy_front(&place.as_mut().text, out)
+    copy_out(&place.as_mut().text, out)
 }

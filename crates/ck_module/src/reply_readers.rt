@@ -7,7 +7,7 @@ ghost use Rattle.ck_journal.specs.Searches.{handles_in};
 
 use crate::places::TokenPlace;
 use ck_foreign::{
-    QueryAnswer, SessionInfo, TokenInfo, answer_in, bytes_in, copy_front, handle_in, handles_in,
+    QueryAnswer, SessionInfo, TokenInfo, answer_in, bytes_in, copy_out, handle_in, handles_in,
     length_in, mechanisms_in, session_in, token_in, value_in,
 };
 
@@ -55,7 +55,7 @@ pub extern "C" fn ospreyrack_mechanisms(place: &mut TokenPlace, out: &mut [u64])
     ensures copied { out.new ≡ filled_with (mechanisms_in place.old.value.reply.body) out.old }
     ensures unchanged { place.new.value ≡ place.old.value }
 {
-    copy_front(mechanisms_in(&place.as_mut().reply.body), out)
+    copy_out(mechanisms_in(&place.as_mut().reply.body), out)
 }
 
 /// How many handles of found objects the reply has. They, or as many of them as there is room for,
@@ -66,7 +66,7 @@ pub extern "C" fn ospreyrack_handles(place: &mut TokenPlace, out: &mut [u64]) ->
     ensures copied { out.new ≡ filled_with (handles_in place.old.value.reply.body) out.old }
     ensures unchanged { place.new.value ≡ place.old.value }
 {
-    copy_front(handles_in(&place.as_mut().reply.body), out)
+    copy_out(handles_in(&place.as_mut().reply.body), out)
 }
 
 /// The answer to the query of this index, counted from 0; unavailable where there is none.
@@ -86,7 +86,7 @@ pub extern "C" fn ospreyrack_value(place: &mut TokenPlace, index: usize, out: &m
     ensures copied { out.new ≡ filled_with (value_in place.old.value.reply.body index) out.old }
     ensures unchanged { place.new.value ≡ place.old.value }
 {
-    copy_front(value_in(&place.as_mut().reply.body, index), out)
+    copy_out(value_in(&place.as_mut().reply.body, index), out)
 }
 
 /// The length of the digest or signature that the reply has or tells the length of, else 0.
@@ -106,5 +106,5 @@ pub extern "C" fn ospreyrack_bytes(place: &mut TokenPlace, out: &mut [u8]) -> us
     ensures copied { out.new ≡ filled_with (bytes_in place.old.value.reply.body) out.old }
     ensures unchanged { place.new.value ≡ place.old.value }
 {
-    copy_front(bytes_in(&place.as_mut().reply.body), out)
+    copy_out(bytes_in(&place.as_mut().reply.body), out)
 }

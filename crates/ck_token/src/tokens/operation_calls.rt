@@ -321,6 +321,8 @@ impl Token {
             (λ b. finish_change kind session rv.Ok b)
             (λ code. finish_change kind session (rv.Error code) body.Empty) (is_some room) result }
     {
+        // A match, since through the closure of a `map_err` the proof would have to carry what is
+        // known of the operation. So it is in the three functions below that end an operation.
         let operation = match self.check_single_part(kind, session, bytes) {
             Err(error) => return Err(ending_refusal(kind, session, error)),
             Ok(operation) => operation,
@@ -424,7 +426,11 @@ impl Token {
     {
         match self.check_verify(session, bytes, signature, ready) {
             Err(error) => Err(ending_refusal(OperationKind::Verify, session, error)),
-            Ok(()) => Ok(Decision::of_change(finish_operation(OperationKind::Verify, session, true))),
+            Ok(()) => Ok(Decision::of_change(finish_operation(
+                OperationKind::Verify,
+                session,
+                true,
+            ))),
         }
     }
 
@@ -437,7 +443,11 @@ impl Token {
     {
         match self.check_verify_final(session, signature) {
             Err(error) => Err(ending_refusal(OperationKind::Verify, session, error)),
-            Ok(()) => Ok(Decision::of_change(finish_operation(OperationKind::Verify, session, true))),
+            Ok(()) => Ok(Decision::of_change(finish_operation(
+                OperationKind::Verify,
+                session,
+                true,
+            ))),
         }
     }
 }
