@@ -53,6 +53,15 @@ static CK_RV check_template(const CK_ATTRIBUTE *attributes, CK_ULONG count) {
     return CKR_OK;
 }
 
+/* No buffer has such a length: it may be the CK_UNAVAILABLE_INFORMATION of a call before. */
+static CK_RV check_queries(const CK_ATTRIBUTE *queries, CK_ULONG count) {
+    for (CK_ULONG i = 0; i < count; i++) {
+        if (queries[i].pValue != NULL && queries[i].ulValueLen >= LONGEST_MEMORY)
+            return CKR_ARGUMENTS_BAD;
+    }
+    return CKR_OK;
+}
+
 CK_RV check_call(const struct call *call) {
     if (is_missing(call->pin) || is_missing(call->new_pin) || is_missing(call->bytes)
         || is_missing(call->signature))
@@ -61,10 +70,8 @@ CK_RV check_call(const struct call *call) {
         return CKR_MECHANISM_PARAM_INVALID;
     if (call->count > most_attributes || (call->attributes == NULL && call->count > 0))
         return CKR_ARGUMENTS_BAD;
-    /* Queries have rooms and no values. */
-    if (call->name == GET_ATTRIBUTE_VALUE)
-        return CKR_OK;
-    return check_template(call->attributes, call->count);
+    return call->name == GET_ATTRIBUTE_VALUE ? check_queries(call->attributes, call->count)
+                                             : check_template(call->attributes, call->count);
 }
 
 /* Threads are numbered from 1 to 8 in the order in which they first call; the ninth is 1 again. The

@@ -108,18 +108,28 @@ static bool read_seed(void) {
     return true;
 }
 
-/* Writes a path with the process's number in place of each %p. */
-static bool expand_path(const char *path, struct buffer *expanded) {
+/* Adds the number that stands in place of a %p or a %n, or else one byte of the path. Answers how
+ * many bytes of the path that took, or 0 without memory. */
+static size_t expand_place(const char *path, unsigned long begun, struct buffer *expanded) {
     char number[24];
-    snprintf(number, sizeof number, "%ld", (long)getpid());
-    const char *place;
-    bool is_added = true;
-    while (is_added && (place = strstr(path, "%p")) != NULL) {
-        is_added = buffer_add(expanded, path, (size_t)(place - path))
-            && buffer_add_text(expanded, number);
-        path = place + 2;
+    if (path[0] != '%' || (path[1] != 'p' && path[1] != 'n'))
+        return buffer_add(expanded, path, 1) ? 1 : 0;
+    snprintf(number, sizeof number, "%lu", path[1] == 'p' ? (unsigned long)getpid() : begun);
+    return buffer_add_text(expanded, number) ? 2 : 0;
+}
+
+/* Writes a path with the process's number in place of each %p, and in place of each %n how many
+ * journals the process has begun, with this one. */
+static bool expand_path(const char *path, struct buffer *expanded) {
+    static unsigned long begun;
+    begun++;
+    while (*path != '\0') {
+        size_t used = expand_place(path, begun, expanded);
+        if (used == 0)
+            return false;
+        path += used;
     }
-    return is_added && buffer_add(expanded, path, strlen(path) + 1);
+    return buffer_add(expanded, "", 1);
 }
 
 static bool open_new_journal(const char *path) {

@@ -37,6 +37,7 @@ static bool lock_file(struct journal *journal, const char *path) {
         return report_error(journal, path);
     journal->device = status.st_dev;
     journal->inode = status.st_ino;
+    journal->has_name = status.st_nlink > 0;
     if (!S_ISREG(status.st_mode))
         return report(journal->variable, "%s: this is no regular file", path);
     if (flock(journal->file, LOCK_EX | LOCK_NB) != 0)
@@ -55,7 +56,7 @@ static bool lock_file(struct journal *journal, const char *path) {
 static int open_file(const char *path) {
     int file;
     do
-        file = open(path, O_RDWR | O_APPEND | O_CREAT | O_CLOEXEC, S_IRUSR | S_IWUSR);
+        file = open(path, O_RDWR | O_APPEND | O_CREAT | O_CLOEXEC | O_NOCTTY, S_IRUSR | S_IWUSR);
     while (file < 0 && errno == EINTR);
     if (file < 0 || file > STDERR_FILENO)
         return file;
@@ -164,13 +165,18 @@ static bool has_file(const struct journal *journal, struct stat *status) {
         || (status->st_dev == journal->device && status->st_ino == journal->inode);
 }
 
-/* Why nothing may be written, or NULL. A child that wasn't made by fork(2) is as its parent was. */
+/* Why nothing may be written, or NULL. A child that wasn't made by fork(2) is as its parent was. In
+ * a file that has lost calls, or its name, later ones would be lost as well. */
 static const char *find_obstacle(struct journal *journal) {
-    struct stat status = {.st_size = journal->length};
+    struct stat status = {.st_size = journal->length, .st_nlink = 1};
     if (journal->process != getpid())
         return "the file is another process's";
     if (!has_file(journal, &status))
         return "the file was closed";
+    if (journal->has_name && status.st_nlink == 0)
+        return "the file was deleted";
+    if (status.st_size < journal->length)
+        return "the file was cut short";
     /* Somebody else may have added a comment: what is written stands behind it. */
     journal->length = status.st_size;
     return NULL;

@@ -34,8 +34,8 @@ static CK_RV make_call_for_output(const struct call *call, CK_BYTE *output, CK_U
 }
 
 CK_RV answer_output(struct call call, CK_BYTE *output, CK_ULONG *length) {
-    if (length != NULL)
-        call.room = (struct room){output != NULL, *length};
+    if (output != NULL && length != NULL)
+        call.room = (struct room){true, *length};
     CK_RV code = enter_with_work(&call);
     if (code == CKR_OK)
         code = leave(make_call_for_output(&call, output, length));

@@ -62,6 +62,7 @@ struct journal {
     pid_t process;        /* which has opened it: a child of a fork may have the descriptor, too */
     dev_t device;         /* with `inode`: which file it is; 0 until that is known */
     ino_t inode;
+    bool has_name;        /* it stood in a folder when it was locked */
     off_t length;         /* how long the file is, without what is left to be written */
     const char *variable; /* the environment variable that names the file */
     struct buffer text;   /* what is left to be written */

@@ -83,6 +83,13 @@ static bool check_reply(const struct source *source, const uint8_t *given, size_
     return report_reply(source, reply, given, length);
 }
 
+/* What is told of a line that is no call. Why it is none, ck_run tells of each line of a script. */
+static const char *fault_of_line(const uint8_t *line, size_t length) {
+    return length > 0 && line[length - 1] == '\r'
+        ? "a carriage return stands at the end of the line"
+        : "this is no call (ck_run says why)";
+}
+
 static bool answer_call(struct source *source, const uint8_t *line, size_t length) {
     const uint8_t *at = memmem(line, length, arrow, strlen(arrow));
     size_t call_length = at == NULL ? length : (size_t)(at - line);
@@ -92,7 +99,7 @@ static bool answer_call(struct source *source, const uint8_t *line, size_t lengt
     if (outcome == NO_MEMORY)
         return report_line(source, "there is no memory for the call");
     if (outcome != ANSWERED)
-        return report_line(source, "this is no call");
+        return report_line(source, fault_of_line(line, length));
     source->has_calls = true;
     if (at == NULL)
         return check_reply(source, NULL, 0);
@@ -109,7 +116,9 @@ static bool is_limits(const uint8_t *line, size_t length) {
 /* A journal begins with the limits of its token. A new token has no others. */
 static bool answer_limits(struct source *source, const uint8_t *line, size_t length) {
     if (!is_text(line, length, "limits largest"))
-        return report_line(source, "the module's token has the largest limits, and no others");
+        return report_line(source, line[length - 1] == '\r'
+                           ? fault_of_line(line, length)
+                           : "the module's token has the largest limits, and no others");
     if (source->has_calls)
         return report_line(source, "limits stand in front of all calls");
     source->is_case = true;
@@ -228,7 +237,7 @@ bool answer_lines(struct source *source) {
 
 bool open_source(struct source *source) {
     do
-        source->file = open(source->path, O_RDONLY | O_CLOEXEC);
+        source->file = open(source->path, O_RDONLY | O_CLOEXEC | O_NOCTTY);
     while (source->file < 0 && errno == EINTR);
     return source->file >= 0
         || report(source->variable, "%s: the file can't be opened: %s", source->path,

@@ -151,7 +151,7 @@ def use_p11tool(client):
 
 def use_pykcs11(client):
     """PyKCS11 (keys, HMACs, digests, searches)"""
-    for python in [sys.executable, "/usr/bin/python3"]:
+    for python in filter(None, [sys.executable, shutil.which("/usr/bin/python3")]):
         if subprocess.run([python, "-c", "import PyKCS11"], capture_output=True,
                           check=False).returncode == 0:
             break
@@ -281,7 +281,10 @@ def use_softhsm2_util(client):
 def use_openssl(client):
     """OpenSSL's engine pkcs11 (a login, a search for a private key)"""
     client.needs("openssl", "openssl")
-    if "pkcs11" not in client.run("openssl", "engine", "-t", "pkcs11"):
+    # Without the engine this ends with status 1, and names the engine in its error.
+    engine = subprocess.run(["openssl", "engine", "-t", "pkcs11"], env=client.environment,
+                            capture_output=True, timeout=support.SECONDS, check=False)
+    if engine.returncode != 0:
         raise LeftOut("the engine isn't installed: apt-get install libengine-pkcs11-openssl")
     client.prepare()
     client.environment["OPENSSL_CONF"] = client.file(

@@ -111,10 +111,10 @@ def write_prepare_script(folder):
 
 
 def check_prepared_token(checks, module, folder):
-    """The script that prepares a token, and that its PIN and key are there."""
+    """The script that prepares a token, and that its label, PIN and key are there."""
     write_prepare_script(folder)
-    ran = run(f"pkcs11-tool --module {module} --login --pin 123456 --list-objects", folder,
-              OSPREYRACK_SCRIPT="prepare.script")
+    ran = run(f"pkcs11-tool --module {module} --token-label demo --login --pin 123456 "
+              "--list-objects", folder, OSPREYRACK_SCRIPT="prepare.script")
     checks.equal(ran.returncode, 0, "the application on a prepared token")
     checks.check("a key" in ran.stdout, "the prepared key is there")
 

@@ -429,6 +429,8 @@ static const char script[] = "# a script\n1 InitToken 31323334\n1 OpenSession 6\
 static const char open_script[] = "# a script\n1 InitToken 31323334\n1 OpenSession 6";
 static const char other_limits[] = "limits 64 9 9 9\n1 InitToken 31323334 -> 0\n";
 static const char late_limits[] = "1 InitToken 31323334 -> 0\nlimits largest\n";
+static const char with_returns[] = "limits largest\r\n1 InitToken 31323334 -> 0\r\n";
+static const char return_behind_call[] = "limits largest\n1 InitToken 31323334\r\n";
 
 static bool has_length(const char *name, size_t expected) {
     struct stat status;
@@ -448,6 +450,9 @@ static void test_no_journals(void) {
         {"open_script", open_script, "this is no journal: it has neither limits nor a reply"},
         {"other_limits", other_limits, "line 1: the module's token has the largest limits"},
         {"late_limits", late_limits, "line 2: limits stand in front of all calls"},
+        {"with_returns", with_returns, "line 1: a carriage return stands at the end of the line"},
+        {"return_behind_call", return_behind_call,
+         "line 2: a carriage return stands at the end of the line"},
     };
     for (size_t i = 0; i < sizeof files / sizeof *files; i++) {
         write_file(files[i].name, files[i].text);
@@ -464,7 +469,8 @@ static void test_bad_files(void) {
     write_file("no_journal", no_journal);
     mkdir(path_of("folder"), 0700);
     check_file_variable("OSPREYRACK_SCRIPT", "not_there", "not_there");
-    check_file_variable("OSPREYRACK_SCRIPT", "bad_line", "line 4");
+    check_file_variable("OSPREYRACK_SCRIPT", "bad_line", "line 4: this is no call (ck_run says "
+                        "why)\n");
     check_file_variable("OSPREYRACK_SCRIPT", "bad_reply", "line 2: the reply is 0 1, and not 0 2");
     check_file_variable("OSPREYRACK_SCRIPT", "bad_code", "bad_code, line 1: the reply is a2\n");
     /* The first 40 bytes of each reply are shown. */

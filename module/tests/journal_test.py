@@ -419,6 +419,19 @@ class Tests:
         self.end()
         self.checks.check(os.path.exists(self.file("of-%p.cases")), "%p in a token's name is %p")
 
+    def test_counted_journals(self):
+        """%n in the name of the journal counts those that the process has begun."""
+        for _ in range(3):
+            self.begin(JOURNAL=self.file("counted-%n.cases"))
+            self.end()
+        names = [name for name in os.listdir(self.folder) if name.startswith("counted-")]
+        numbers = sorted(int(name[len("counted-"):-len(".cases")]) for name in names)
+        self.checks.equal(numbers, [numbers[0], numbers[0] + 1, numbers[0] + 2], "the numbers")
+        self.begin(JOURNAL=self.file("%-%%n-%x.cases"))
+        self.end()
+        name = self.file(f"%-%{numbers[0] + 3}-%x.cases")
+        self.checks.check(os.path.exists(name), "a % before another letter stays")
+
     def test_mode(self):
         """Only its owner reads and writes the file, whatever the process leaves to others."""
         path = self.file("owned.cases")
@@ -703,7 +716,7 @@ class Tests:
             code, errors = self.initialize(SEED=1, JOURNAL=path, SCRIPT=script)
             self.checks.equal(code, GENERAL_ERROR, "C_Initialize with a bad script")
             self.checks.equal(errors, f"ospreyrack: OSPREYRACK_SCRIPT: {script}, line 1: this is "
-                              "no call\n", "the errors")
+                              "no call (ck_run says why)\n", "the errors")
             made.append(self.random_of_start())
         self.checks.check(made[0] != made[1], "random bytes that follow from no seed")
         self.checks.equal(read(path), b"", "the journal")
@@ -944,6 +957,21 @@ class Tests:
         self.checks.equal((read(self.file("another")), read(path)), (before, content), "the files")
         self.begin(TOKEN=path)
         self.end()
+
+    def test_lost_file(self):
+        """A file that is deleted or cut short while its token is in use takes no more calls."""
+        for name, change, what in [
+                ("deleted.cases", os.unlink, "deleted"),
+                ("shortened.cases", lambda path: os.truncate(path, len(HEADER)), "cut short")]:
+            path = self.file(name)
+            self.begin(TOKEN=path)
+            self.checks.equal(self.module.say("1 InitToken 31323334"), "0", "a call")
+            change(path)
+            with errors_in(self.file("errors")):
+                self.checks.equal(self.module.say("1 GetTokenInfo"), DEVICE_ERROR, "the next call")
+            self.checks.equal(read(self.file("errors")).decode(), "ospreyrack: OSPREYRACK_TOKEN: a "
+                              f"call can't be written: the file was {what}\n", "the errors")
+            self.end()
 
     def test_exec(self):
         """A program that is executed has no descriptor of the file."""
@@ -1412,7 +1440,7 @@ class Tests:
         self.checks.check(held[-1] < held[2] / 2, f"it is cut while a file is answered: {held}")
 
 
-TESTS = [Tests.test_file, Tests.test_mode, Tests.test_going_on, Tests.test_new_label,
+TESTS = [Tests.test_file, Tests.test_counted_journals, Tests.test_mode, Tests.test_going_on, Tests.test_new_label,
          Tests.test_no_label, Tests.test_script, Tests.test_script_and_journal,
          Tests.test_only_reply, Tests.test_calls_beside, Tests.test_callers,
          Tests.test_bad_pointers, Tests.test_quiet, Tests.test_cut_short, Tests.test_longest_line,
@@ -1420,7 +1448,7 @@ TESTS = [Tests.test_file, Tests.test_mode, Tests.test_going_on, Tests.test_new_l
          Tests.test_bad_variable_and_file, Tests.test_cut_off,
          Tests.test_changed, Tests.test_lacking_reply, Tests.test_two_processes,
          Tests.test_second_run, Tests.test_fork, Tests.test_fork_that_stays,
-         Tests.test_unseen_child, Tests.test_closed_file, Tests.test_exec,
+         Tests.test_unseen_child, Tests.test_closed_file, Tests.test_lost_file, Tests.test_exec,
          Tests.test_exec_in_script, Tests.test_signals_in_script, Tests.test_exit,
          Tests.test_waiting, Tests.test_unload,
          Tests.test_unload_with_functions, Tests.test_rights, Tests.test_kills, Tests.test_full,

@@ -173,6 +173,19 @@ static void check_label_room(CK_SESSION_HANDLE session, CK_OBJECT_HANDLE object,
     guarded_free(memory);
 }
 
+/* A length that no memory has is no room, also where a call before has left it there. */
+static void check_impossible_room(CK_SESSION_HANDLE session, CK_OBJECT_HANDLE object,
+                                  CK_ULONG room) {
+    uint8_t *memory = guarded_new(2);
+    CK_ATTRIBUTE label = {CKA_LABEL, memory, room};
+    EXPECT(CKR_ARGUMENTS_BAD, p11->C_GetAttributeValue(session, object, &label, 1));
+    CHECK(label.ulValueLen == room && guarded_is_intact(memory, 2, 0));
+    label.pValue = NULL;
+    EXPECT(CKR_OK, p11->C_GetAttributeValue(session, object, &label, 1));
+    CHECK(label.ulValueLen == 5);
+    guarded_free(memory);
+}
+
 static void test_attribute_rooms(void) {
     CK_SESSION_HANDLE session = begin_token();
     CK_OBJECT_HANDLE object = create_data(session, "label");
@@ -183,9 +196,8 @@ static void test_attribute_rooms(void) {
     check_label_room(session, object, 4, CKR_BUFFER_TOO_SMALL, CK_UNAVAILABLE_INFORMATION, 0);
     check_label_room(session, object, 5, CKR_OK, 5, 5);
     check_label_room(session, object, 64, CKR_OK, 5, 5);
-    label = (CK_ATTRIBUTE){CKA_LABEL, bytes, CK_UNAVAILABLE_INFORMATION};
-    EXPECT(CKR_OK, p11->C_GetAttributeValue(session, object, &label, 1));
-    CHECK(label.ulValueLen == 5);
+    check_impossible_room(session, object, CK_UNAVAILABLE_INFORMATION);
+    check_impossible_room(session, object, (CK_ULONG)1 << 47);
     end_token();
 }
 

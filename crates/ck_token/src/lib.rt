@@ -6,6 +6,11 @@
 //! reply:
 //!
 //! ```
+//! use anyhow::Context;
+//! use ck_token::{Attribute, Bytes, Call, Mechanism, Pin, READ_WRITE, SHA256_HMAC, Template, Token,
+//!     UserType};
+//! use std::alloc::Global;
+//!
 //! fn sign(alloc: Global, token: &mut Token, message: Bytes) -> anyhow::Result<Option<Bytes>> {
 //!     let (so, user) = (Pin::of(b"1234"), Pin::of(b"5678"));
 //!     token.try_call(alloc, 1, Call::InitToken { pin: so })?;
