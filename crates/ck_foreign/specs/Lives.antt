@@ -2,6 +2,7 @@
 use Rattle.std.specs.Prelude.{◌≡◌, ℕ, ◌-◌, ◌^◌, [], Result, Ok, Err}
 use Rattle.ck_types.specs.declared.return_codes.Rv.TheVariants as rv
 use Rattle.ck_journal.specs.Bases.{empty_base}
+use Rattle.ck_journal.specs.Cuts.{base_of, IsLeftBy}
 use Rattle.ck_journal.specs.Histories.{JournalState, start}
 use Rattle.ck_journal.specs.declared.replies.Body.TheVariants as body
 use Rattle.ck_token.specs.Cuts.{IsCut}
@@ -17,10 +18,12 @@ pub record IsNew (m : Module) : Type 0 where
   pub reply : m.reply ≡ record { rv = rv.Ok; body = body.Empty }
   pub text : m.text.items ≡ []
 
--- the reply and the text stay, and the token's journal is cut or not, as `Token::cut` says
+-- the reply and the text stay, and the token's journal is cut or not, as `Token::cut` says; where it
+-- is, later calls are answered as they would have been
 abbrev pub IsModuleCut : Result (Unit {0}) Uncut → Module → Module → Type 0
 IsModuleCut (Ok done) old new =
     ((journal : JournalState) × IsCut old.token new.token (Ok journal))
+    × IsLeftBy old.token.limits old.token.history (base_of old.token.history)
     × (new.reply ≡ old.reply) × (new.text ≡ old.text)
 IsModuleCut (Err refused) old new = IsCut old.token new.token (Err refused) × (new ≡ old)
 

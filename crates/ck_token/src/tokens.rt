@@ -110,6 +110,7 @@ impl Token {
     ghost use Rattle.ck_journal.specs.Boards.{board_of};
     ghost use Rattle.ck_journal.specs.Cuts.{base_of, IsLeftBy};
     ghost use Rattle.ck_journal.specs.Histories.{start, start_of};
+    ghost use Rattle.ck_journal.specs.Laws.{IsSoundHistory};
     ghost use Rattle.ck_parts.specs.Changes.{effect};
     ghost use Rattle.ck_token.specs.Cuts.{IsCut};
     ghost use Rattle.ck_token.specs.Decisions.{IsDecision, may_run_out, reply_of};
@@ -148,10 +149,12 @@ impl Token {
         }
     }
 
-    /// The journal: the base that it starts from, and all calls answered since.
+    /// The journal: the base that it starts from, and all calls answered since. The laws of
+    /// ck_journal hold of it.
     pub fn journal(&self) -> &Journal
         ensures history { result.now.history ≡ self.now.history }
         ensures legal { IsLegal self.now.limits self.now.history }
+        ensures sound { IsSoundHistory self.now.limits self.now.history }
     {
         &self.journal
     }
@@ -196,6 +199,7 @@ impl Token {
     /// answered as they would have been.
     pub fn cut(&mut self, alloc: Global) -> Result<Journal, Uncut>
         ensures cut { IsCut self.old self.new result }
+        ensures taken { OnOk result (IsSoundHistory self.old.limits self.old.history) }
         ensures sound { OnOk result (IsSound (base_of self.old.history)) }
         ensures left { OnOk result
             (IsLeftBy self.old.limits self.old.history (base_of self.old.history)) }

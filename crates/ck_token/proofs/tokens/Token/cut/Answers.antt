@@ -45,6 +45,11 @@ invariant_of-self c =
     subst (λ g. TokenAgrees t.limits g t.parts) (sym new)
     (token-cut _ _ (good p) (none p) t.parts c.self.invariant)
 
+pub returns-clause-taken : goal.returns-clause-taken
+returns-clause-taken c =
+    let p = (goal.at.returns-clause-taken c).After-base-base in
+    rw (← c.self.view_is) (good p)
+
 pub returns-clause-sound : goal.returns-clause-sound
 returns-clause-sound c =
     let p = (goal.at.returns-clause-sound c).After-base-base in
