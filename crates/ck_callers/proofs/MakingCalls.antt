@@ -10,7 +10,7 @@ use Rattle.ck_journal.specs.declared.replies.Reply.{Reply}
 use Rattle.ck_journal.proofs.FrontLemmas.{front_refl, front_trans}
 use Rattle.ck_callers.specs.Callers.{CallerState, HasCalled, entry_by}
 use Rattle.ck_callers.specs.NextSteps.{EndsAt, HasMade}
-use Rattle.ck_callers.specs.Scripts.{entries_after, HasMadeCalls}
+use Rattle.ck_callers.specs.Scripts.{entries_after, HasMadeCalls, KnowsItsLast}
 
 none_made : (MayFail : Call → Type 0) (calls : List Call) (outcome : Result (Unit {0}) NoMemory)
     → EndsAt MayFail calls outcome
@@ -49,6 +49,13 @@ module _ (limits : Ranges) (old : CallerState) (call : Call) (reply : Reply) (no
       ∷ entries_by old.number old.last
   own_one = ap (entries_by old.number) does.last ∙ does.own
 
+  -- after this call the caller knows just the history of its last reply, also where no later call
+  -- was answered
+  pub knows_one : (replies : List Reply) (new : CallerState) → KnowsItsLast replies now new
+      → new.last ≡ new.seen
+  knows_one [] new same = subst (λ (c : CallerState). c.last ≡ c.seen) (sym same) does.last
+  knows_one (r ∷ rs) new known = known
+
   pub made_call : (calls : List Call) (replies : List Reply)
       (outcome : Result (Unit {0}) NoMemory)
       (new : CallerState) → HasMadeCalls now calls replies outcome new
@@ -76,3 +83,15 @@ module _ (limits : Ranges) where
   made_calls old (call ∷ calls) (reply ∷ replies) outcome new made =
       made_call limits old call reply made.0 made.1 calls replies outcome new
       (made_calls made.0 calls replies outcome new made.2)
+
+  -- the history of the last reply is what the caller knows
+  pub knows_last : (old : CallerState) (calls : List Call) (replies : List Reply)
+      (outcome : Result (Unit {0}) NoMemory)
+      (new : CallerState) → HasMade (HasCalled limits) (λ call. Unit {0}) old calls replies outcome
+      new
+      → KnowsItsLast replies old new
+  knows_last old calls [] outcome new made = made.0
+  knows_last old [] (reply ∷ replies) outcome new made = absurd made
+  knows_last old (call ∷ calls) (reply ∷ replies) outcome new made =
+      knows_one limits old call reply made.0 made.1 replies new
+      (knows_last made.0 calls replies outcome new made.2)

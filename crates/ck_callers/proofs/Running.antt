@@ -11,7 +11,7 @@ use Rattle.ck_callers.specs.Steps.{HasStepped, IsCall}
 use Rattle.ck_callers.specs.declared.scripts.Script.{Script}
 use Rattle.ck_callers.specs.declared.steps.Answered.{Answered}
 use Rattle.ck_callers.specs.declared.steps.Step.{Step}
-use Rattle.ck_callers.proofs.MakingCalls.{made_calls}
+use Rattle.ck_callers.proofs.MakingCalls.{made_calls, knows_last}
 use Rattle.ck_callers.proofs.Taking.{taken}
 
 all_zip_weaker : {A B : Type 0} (P Q : A → B → Type 0) → ((x : A) (y : B) → P x y → Q x y)
@@ -34,6 +34,8 @@ module _ {K : Type 0} (limits : Ranges) where
     made_calls limits old.caller (vec_items old.steps) (vec_items new.replies) new.outcome
         new.caller made.0,
     made.1,
+    knows_last limits old.caller (vec_items old.steps) (vec_items new.replies) new.outcome
+        new.caller made.0,
   ))
 
   script_taken : (old new : Script K Step Answered) → HasRun (HasStepped limits) IsCall old new

@@ -5,7 +5,7 @@ use Rattle.ck_journal.specs.declared.calls.Call.{Call}
 use Rattle.ck_journal.specs.declared.replies.Reply.{Reply}
 use Rattle.ck_callers.specs.Callers.{CallerState}
 use Rattle.ck_callers.specs.NextSteps.{HasMade}
-use Rattle.ck_callers.specs.Scripts.{HasMadeCalls}
+use Rattle.ck_callers.specs.Scripts.{HasMadeCalls, KnowsItsLast}
 use Rattle.ck_callers.specs.Steps.{HasTaken}
 use Rattle.ck_callers.specs.declared.scripts.Script.{Script}
 use Rattle.ck_callers.specs.declared.steps.Answered.{Answered}
@@ -22,7 +22,7 @@ abbrev pub AreMade : {K : Type 0} → Script K Call Reply → Script K Call Repl
 AreMade old new =
     MatchBool new.started
     (HasMadeCalls old.caller (vec_items old.steps) (vec_items new.replies) new.outcome new.caller
-    × (vec_items new.steps ≡ []))
+    × (vec_items new.steps ≡ []) × KnowsItsLast (vec_items new.replies) old.caller new.caller)
     (IsUntouched old new)
 
 -- the caller of the script has taken its steps in a thread, and none are left

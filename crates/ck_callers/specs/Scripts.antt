@@ -26,3 +26,8 @@ pub record HasMadeCalls (old : CallerState) (calls : List Call) (replies : List 
       ≡ entries_after old.number calls replies (entries_by old.number old.last)
   pub made : MatchResult outcome (λ done. length replies ≡ length calls)
       (λ none. length replies < length calls)
+
+-- after a reply the caller knows just the history of its last reply; without one it is as it was
+abbrev pub KnowsItsLast : List Reply → CallerState → CallerState → Type 0
+KnowsItsLast [] old new = new ≡ old
+KnowsItsLast (reply ∷ replies) old new = new.last ≡ new.seen

@@ -124,7 +124,7 @@ impl<K: TokenId> Caller<K> {
     /// Learns what another caller knew: afterwards it knows the longer of the two histories.
     pub fn learn(&mut self, news: &News<K>)
         ensures seen { (self.new.seen ≡ self.old.seen) ⊎ (self.new.seen ≡ news.now) }
-        ensures own { IsFront self.old.seen self.new.seen }
+        ensures front { IsFront self.old.seen self.new.seen }
         ensures news { IsFront news.now self.new.seen }
         ensures same { self.new ≡ record self.old { seen = self.new.seen } }
     {

@@ -13,7 +13,7 @@ use Rattle.ck_journal.specs.declared.replies.Reply.{Reply}
 use Rattle.ck_callers.specs.Accounts.{AccountState, new_account, new_accounts}
 use Rattle.ck_callers.specs.Callers.{CallerState, are_all, new_caller, new_callers}
 use Rattle.ck_callers.specs.Runs.{IsUntouched, AreMade}
-use Rattle.ck_callers.specs.Scripts.{HasMadeCalls}
+use Rattle.ck_callers.specs.Scripts.{HasMadeCalls, KnowsItsLast}
 use Rattle.ck_callers.specs.declared.scripts.Script.{Script}
 use Rattle.ck_program.specs.CallerCalls.{caller_numbers, script_numbers}
 
@@ -33,7 +33,7 @@ one_moved f g moved longer a left rest b all before next pushed same =
 same_number : {K : Type 0} (old new : Script K Call Reply) (started : Bool)
     → MatchBool started
     (HasMadeCalls old.caller (vec_items old.steps) (vec_items new.replies) new.outcome new.caller
-    × (vec_items new.steps ≡ []))
+    × (vec_items new.steps ≡ []) × KnowsItsLast (vec_items new.replies) old.caller new.caller)
     (IsUntouched old new)
     → new.caller.number ≡ old.caller.number
 same_number old new true played = played.0.number
