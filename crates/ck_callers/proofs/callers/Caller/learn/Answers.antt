@@ -17,7 +17,7 @@ invariant_of-self g c =
       c.self.invariant.1,
     )
 
-pub returns-then-is_front_of-clause-front : goal.returns-then-is_front_of-clause-own
+pub returns-then-is_front_of-clause-front : goal.returns-then-is_front_of-clause-front
 returns-then-is_front_of-clause-front g c =
     let front : IsFront c.self.inside.known.history c.news.inside.known.history =
     subst (λ h. IsFront h c.news.inside.known.history) c.front.ensures
