@@ -115,6 +115,7 @@ CHANGES = [
     ("an edit that is another one", EDITS, "new: .*", "new: none"),
     ("another reply of a case", "crates/*/data/*.cases", " -> 0$", " -> 1"),
     ("another definition", "crates/*/specs/*.antt", "^pub record ", "pub  record "),
+    ("a clause that is gone", "crates/ck_store/src/labels.rt", "^ *ensures .*\n", ""),
     ("another reply of a race", "crates/*/data/*.races", " -> 0$", " -> 1"),
     ("another output", "crates/*/stdout", "1", "2"),
     ("a comparison that may end early", "crates/*/src/*.rt", "constant_time_eq\\(&", "same(&"),
@@ -434,6 +435,17 @@ def check_change(checks, copy, front, what, *change_of):
     write(listed, list_before)
 
 
+def check_moved_definition(checks, copy):
+    """A file of definitions that is moved into a folder is listed there."""
+    path = sorted(glob.glob(os.path.join(copy, "crates/*/specs/*.antt")))[0]
+    moved = os.path.join(os.path.dirname(path), "more", os.path.basename(path))
+    os.renames(path, moved)
+    _, said = say_of_checks(copy)
+    is_told = f"not listed: definition: {os.path.relpath(moved, copy)} " in said
+    checks.expect(is_told, f"definitions in a folder: {said}")
+    os.renames(moved, path)
+
+
 def check_contract_change(checks, copy, *change_of):
     """A change of what contracts.py writes or compares is told."""
     path, text = change(copy, *change_of)
@@ -452,6 +464,7 @@ def changes(checks):
             check_change(checks, copy, ("gone or changed: ", "not listed: "), *what)
         for what in WRONG_CHANGES:
             check_change(checks, copy, "wrong: ", *what)
+        check_moved_definition(checks, copy)
         status, said = run_script(copy, CONTRACTS, "check")
         checks.expect(status == 0, f"the contracts of the copy: {said}")
         for what in CONTRACT_CHANGES:
