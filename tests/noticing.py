@@ -63,7 +63,7 @@ SILENT = {
 }
 
 # Tests of a file, to which it is all the same which program is there.
-OTHERS = (races.shapes, rules.codes, rules.reasons, rules.statuses, rules.names_of_mechanisms,
+OTHERS = (races.shapes, rules.checks_of_calls, rules.codes, rules.reasons, rules.statuses, rules.names_of_mechanisms,
           figures.readings, figures.readings_of_module, figures.times_of_calls, figures.bounds,
           figures.bounds_of_module, figures.sections)
 
@@ -94,6 +94,11 @@ PAGES = [
     (rules.key_states, "rules.md", r"^\| 4 \| destroyed \|", "| 6 | destroyed |"),
     (rules.mechanisms, "rules.md", r"^\| SHA-384 .*\n", ""),
     (rules.session_states, "rules.md", r"^(\| nobody .*\n)(\| the user .*\n)", r"\2\1"),
+    (rules.checks_of_calls, "rules.md", r"^3(\. That user .*\n)4(\. The new .*\n)", r"3\2\n4\1"),
+    (rules.checks_of_calls, "rules.md", r"^3(\. That user .*\n)4(\. The new .*\n)", r"4\2\n3\1"),
+    (rules.checks_of_calls, "rules.md", r"^2\. CKA_COPYABLE is .*\n", ""),
+    (rules.checks_of_calls, "rules.md", r"CKR_SESSION_EXISTS \(b6\)", "CKR_SESSION_EXISTS (b5)"),
+    (rules.checks_of_calls, "rules.md", r"^2(\. All.*\n.*\n)3(\. Cr.*\n.*\n.*\n)", r"2\2\n3\1"),
     (rules.calls, "script.md", r"^\| `SetPIN` \| session, ", "| `SetPIN` | "),
     (rules.calls, "script.md", r"^\| `SetPIN` .*\n", ""),
     (rules.codes, "script.md", r"^\| `b3` \| CKR_", "| `b4` | CKR_"),

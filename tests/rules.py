@@ -1,25 +1,34 @@
 #!/usr/bin/env python3
 """Plays the tables of docs/rules.md on the built program ck_run: which templates an attribute may
 stand in, its forms, and its value where no template gives it; which key state may become which, and
-what a key does in it; mechanisms, the states of sessions, and the longest pieces of messages. Of
-docs/script.md it plays how many arguments each call takes.
+what a key does in it; mechanisms, the states of sessions, and the longest pieces of messages; which
+calls count wrong tries back, the token's flags, limits, and answers to queries. Of docs/script.md
+it plays how many arguments each call takes, how arguments and replies are written, and which of
+several faults of a line is named.
 
 The replies that are wanted are read off the pages. So that no row is passed over, each table must
 have as many rows as are said here, and attributes and states that it doesn't have must be refused.
-Last, return codes, reasons of bad lines, statuses and names of mechanisms on the pages are compared
-with those that the sources and other tests have. The program is crates/ck_run/out/ck_run, which
-`rt ci` leaves, or the one that is named. For each test a line is printed that begins with passed or
-FAILED, and the status is 1 where one failed.
+Last, what pages say is compared with what the sources and other tests have: the checks of each
+call, return codes, reasons of bad lines, statuses, names and functions for programs, names of laws,
+races, and numbers. The program is crates/ck_run/out/ck_run, which `rt ci` leaves, or the one that
+is named. For each test a line is printed that begins with passed or FAILED, and the status is 1
+where one failed.
 """
+import glob
+import itertools
 import os
 import re
 import sys
+import tempfile
 
 import program
+import recorded_runs
 
 PROGRAM = program.PROGRAM
 DOCS = os.path.join(program.HERE, "..", "docs")
 CRATES = os.path.join(program.HERE, "..", "crates")
+sys.path.insert(0, DOCS)
+import contracts
 
 # The tables that are read, by the first cells of their heads: the page of each, and its rows.
 TABLES = {
@@ -27,11 +36,19 @@ TABLES = {
     "number | state": ("rules.md", 6),
     "hash function (FIPS 180-4)": ("rules.md", 4),
     "login | read-only session": ("rules.md", 3),
+    "the user | the security officer": ("rules.md", 4),
+    "flag | number (hexadecimal)": ("rules.md", 9),
+    "limit | range": ("rules.md", 4),
+    "| answer | fault": ("rules.md", 5),
+    "argument | text": ("script.md", 11),
+    "what comes with the code | text after the code": ("script.md", 9),
     "call | arguments": ("script.md", 34),
     "code | name": ("script.md", 38),
     "status | when": ("script.md", 8),
     "what is wrong | text": ("script.md", 18),
     "name | the standard's": ("rust.md", 10),
+    "function | makes": ("rust.md", 10),
+    "what callers do at once | what comes": ("threads.md", 11),
 }
 
 # A token that is initialized, with the user logged in in session 1. Private objects then have
@@ -78,6 +95,32 @@ UNTRIED = (3, "ck_run: reader does not end")
 CODE = re.compile(r'\(0x([0-9a-f]+), "(CKR_\w+)"\)')
 MECHANISM = re.compile(r"pub const (\w+): u64 = 0x([0-9a-f]+);")
 QUOTED = re.compile("`([^`]*)`")
+
+# How the rules of a call begin, with what it is given; and what stands for its checks in them.
+CALL = re.compile(r"^\*\*(\w+)\*\*(?:\(([^)]*)\))?", re.MULTILINE)
+CHECK = re.compile(r"(?P<name>CKR_\w+) \((?P<code>[0-9a-f]+)[,;)]"
+                   r"|The checks of a template that (?P<purpose>\w+)"
+                   r"|(?P<buffer>the reply is by the buffer)"
+                   r"|(?P<queries>the queries are answered)")
+# A code with its number; and also a number by itself.
+CODED = re.compile(r"(CKR_\w+) \(([0-9a-f]+)\)")
+CODED_AGAIN = re.compile(r"(CKR_\w+) \(([0-9a-f]+)\)|\b[0-9a-f]{2,3}\b")
+CODE_NAME = re.compile(r"CKR_\w+")
+# How the checks of templates begin, and which of them are made of one that does this.
+FRONT = re.compile(r"\b(All|Created, a secret key|Created|Generated|Copied and changed|Copied): ")
+TEMPLATES = {
+    "creates": ("All", "Created", "Created, a secret key"),
+    "generates": ("All", "Generated"),
+    "copies": ("All", "Copied", "Copied and changed"),
+    "sets": ("All", "Copied and changed"),
+}
+# The comment of a function that decides a call, a call of the standard, and a call that no function
+# decides, since it is never refused.
+DECISION = re.compile(r"((?: *///.*\n)+) *pub\(super\) fn (\w+)")
+OF_CALL = re.compile(r"\bC_(\w+)")
+UNDECIDED = "CloseAllSessions"
+# A call of a case, with the code of its reply.
+RECORDED = re.compile(r"^\d+ (\w+)(?: .*)? -> (?!bad )([0-9a-f]+)(?= |$)", re.MULTILINE)
 
 
 def read(*names):
@@ -374,6 +417,112 @@ def calls(tests):
     tests.end("how many arguments each call takes")
 
 
+# ---- The calls, and their checks
+
+
+def part_of(page, title):
+    """What stands below a title of a page, up to the next title."""
+    _, _, rest = read(DOCS, page).partition(f"\n{title}\n")
+    return rest.partition("\n#")[0]
+
+
+def known_codes():
+    """The number of each code, by its name."""
+    return {name: code for code, name in CODE.findall(read(CRATES, "ck_run", "src", "texts.rt"))}
+
+
+def codes_of_template(purpose):
+    """The codes of the checks of a template that does this, in their order."""
+    said = re.sub(r"\([^()]*\)", "", part_of("rules.md", "## Checks of templates"))
+    _, *parts = FRONT.split(said)
+    return [known_codes().get(name) for front, text in zip(parts[::2], parts[1::2])
+            if front in TEMPLATES[purpose] for name in CODE_NAME.findall(text)]
+
+
+def codes_in_rules(tests, text):
+    """The codes that these rules of a call name, in their order."""
+    known = known_codes()
+    queries = [CODED.search(cells[2]) for cells in rows(tests, "| answer | fault")]
+    for found in CHECK.finditer(" ".join(text.split())):
+        if found["purpose"]:
+            yield from codes_of_template(found["purpose"])
+        elif found["buffer"]:
+            yield known["CKR_BUFFER_TOO_SMALL"]
+        elif found["queries"]:
+            yield from (it[2] for it in queries if it)
+        else:
+            tests.expect(known.get(found["name"]) == found["code"], f"rules.md: {found[0]}")
+            yield found["code"]
+
+
+def without_repeats(codes):
+    """The codes, where each that follows itself counts once: two checks of a list may have one."""
+    return [code for code, _ in itertools.groupby(codes)]
+
+
+def codes_on_page(tests):
+    """The codes of each call, in the order of its checks. The first one of a call that names a
+    session is said of all of them."""
+    _, *parts = CALL.split(part_of("rules.md", "## The calls"))
+    codes = {}
+    for name, given, text in zip(parts[::3], parts[1::3], parts[2::3]):
+        numbers = re.findall(r"^(\d+)\. ", text, re.MULTILINE)
+        tests.expect(numbers == [str(it + 1) for it in range(len(numbers))],
+                     f"{name}: the checks have the numbers {numbers}")
+        first = ["b3"] if (given or "").split(", ")[0] == "session" else []
+        codes[name] = without_repeats(first + [*codes_in_rules(tests, text)])
+    return codes
+
+
+def codes_in_comment(text, name):
+    """The codes that a comment names, in their order: first with its name, and then by itself. What
+    is said `of a signature` isn't said of another call."""
+    text = re.sub("of a signature (.*?);", r"\1;" if name.startswith("Sign") else "", text)
+    named = {code for _, code in CODED.findall(text)}
+    codes = [found[2] or found[0] for found in CODED_AGAIN.finditer(text)]
+    return without_repeats(code for code in codes if code in named)
+
+
+def codes_in_code():
+    """The codes of each call by the comment of the function that decides it. One that isn't of the
+    standard goes by the function's name."""
+    codes = {}
+    for path in sorted(glob.glob(os.path.join(CRATES, "ck_token", "src", "tokens", "*.rt"))):
+        for comment, function in DECISION.findall(read(path)):
+            text = " ".join(comment.replace("///", " ").split())
+            of_call = re.search(r"^(.*?)(?:Checks?: (.*)|, which is never refused\.)", text)
+            for name in OF_CALL.findall(of_call[1]) if of_call else []:
+                codes[name] = codes_in_comment(of_call[2] or "", name)
+            if of_call and not OF_CALL.search(of_call[1]):
+                name = function.title().replace("_", "")
+                codes[name] = codes_in_comment(of_call[2] or "", name)
+    return codes
+
+
+def codes_recorded():
+    """The codes with which each call is answered in the cases."""
+    codes = {}
+    for path in glob.glob(os.path.join(CRATES, "ck_cases", "data", "*.cases")):
+        for name, code in RECORDED.findall(read(path)):
+            codes.setdefault(name, set()).add(code)
+    return codes
+
+
+def checks_of_calls(tests):
+    """The page has the checks of each call in the order in which the comment of its decision has
+    them, and each code is that of a case. Those of pieces that are too long are played below."""
+    page, code, recorded = codes_on_page(tests), codes_in_code(), codes_recorded()
+    names = {name.strip("`") for name, _ in rows(tests, "call | arguments")}
+    tests.expect(set(page) == names, f"said in one page only: {set(page) ^ names}")
+    tests.expect(set(code) == names - {UNDECIDED}, f"said, or decided: {set(code) ^ names}")
+    for name, said in page.items():
+        decided = code.get(name, [])
+        tests.expect(said == decided, f"{name}: {said} on the page, {decided} in the code")
+        others = recorded.get(name, set()) ^ {"0", *said}
+        tests.expect(others <= {"21"}, f"{name}: on the page, or in a case, and not both: {others}")
+    tests.end("the checks of each call on the page of rules")
+
+
 # ---- What pages say that is said elsewhere
 
 
@@ -435,6 +584,7 @@ def main(path):
     key_states(tests)
     mechanisms(tests)
     session_states(tests)
+    checks_of_calls(tests)
     pieces(tests)
     calls(tests)
     codes(tests)
