@@ -59,12 +59,14 @@ SILENT = {
                                   races.whole_file, races.set_orders, rules.attributes,
                                   rules.unknown_attributes, rules.values, rules.key_states,
                                   rules.mechanisms, rules.session_states, rules.pieces,
+                                  rules.flags, rules.tries, rules.locks, rules.buffers,
+                                  rules.queries,
                                   figures.scripts, figures.judges],
 }
 
 # Tests of a file, to which it is all the same which program is there.
-OTHERS = (races.shapes, rules.checks_of_calls, rules.codes, rules.reasons, rules.statuses, rules.names_of_mechanisms,
-          figures.readings, figures.readings_of_module, figures.times_of_calls, figures.bounds,
+OTHERS = (races.shapes, rules.limits, rules.checks_of_calls, rules.codes, rules.reasons,
+          rules.statuses, rules.names_of_mechanisms, figures.readings, figures.readings_of_module, figures.times_of_calls, figures.bounds,
           figures.bounds_of_module, figures.sections)
 
 # What a program of figures says of few calls, of many and of an audit, and whether the times can be
@@ -94,6 +96,23 @@ PAGES = [
     (rules.key_states, "rules.md", r"^\| 4 \| destroyed \|", "| 6 | destroyed |"),
     (rules.mechanisms, "rules.md", r"^\| SHA-384 .*\n", ""),
     (rules.session_states, "rules.md", r"^(\| nobody .*\n)(\| the user .*\n)", r"\2\1"),
+    (rules.flags, "rules.md", r"^(\| CKF_SO_PIN_LOCKED \|) 400000 ", r"\1 800000 "),
+    (rules.flags, "rules.md", r"^(\| CKF_USER_PIN_FINAL_TRY .* has) 2 ", r"\1 1 "),
+    (rules.flags, "rules.md", r"^\| CKF_USER_PIN_LOCKED .*\n", ""),
+    (rules.tries, "rules.md", r"^\| C_InitPIN \| \|\n", "| C_InitPIN | C_InitPIN |\n"),
+    (rules.tries, "rules.md", r"^\| C_InitToken \| C_InitToken \|\n", ""),
+    (rules.tries, "rules.md", r"^\| C_Login of the user \|(.*)\|\n", r"| |\1|\n"),
+    (rules.locks, "rules.md", r"^- Three wrong tries", "- Five wrong tries"),
+    (rules.locks, "rules.md", r"^- Three wrong tries", "- Two wrong tries"),
+    (rules.limits, "rules.md", r"^(\| openings .* 1 to) 2\^32 ", r"\1 2^31 "),
+    (rules.limits, "rules.md", r"^(\| sessions open at once .*)CKR_SESSION_COUNT \(b1\)",
+     r"\1CKR_DEVICE_MEMORY (31)"),
+    (rules.limits, "rules.md", r"^\| logins of the user in all.*\n", ""),
+    (rules.queries, "rules.md", r"^(\| it is a hidden .*\n)(\| the object .*\n)", r"\2\1"),
+    (rules.queries, "rules.md", r"^(\| the buffer .* the value \|.*)150", r"\g<1>12"),
+    (rules.buffers, "rules.md", r"^(\| the buffer .* that length \|)[^|]*", r"\1 CKR_OK "),
+    (rules.buffers, "rules.md", r"^(\| no buffer .*) the length of ", r"\1 "),
+    (rules.queries, "rules.md", r"^(\| no buffer is given \|) the length of ", r"\1 "),
     (rules.checks_of_calls, "rules.md", r"^3(\. That user .*\n)4(\. The new .*\n)", r"3\2\n4\1"),
     (rules.checks_of_calls, "rules.md", r"^3(\. That user .*\n)4(\. The new .*\n)", r"4\2\n3\1"),
     (rules.checks_of_calls, "rules.md", r"^2\. CKA_COPYABLE is .*\n", ""),

@@ -15,6 +15,7 @@ is named. For each test a line is printed that begins with passed or FAILED, and
 where one failed.
 """
 import glob
+import hashlib
 import itertools
 import os
 import re
@@ -39,6 +40,7 @@ TABLES = {
     "the user | the security officer": ("rules.md", 4),
     "flag | number (hexadecimal)": ("rules.md", 9),
     "limit | range": ("rules.md", 4),
+    "| code | reply": ("rules.md", 3),
     "| answer | fault": ("rules.md", 5),
     "argument | text": ("script.md", 11),
     "what comes with the code | text after the code": ("script.md", 9),
@@ -122,6 +124,59 @@ UNDECIDED = "CloseAllSessions"
 # A call of a case, with the code of its reply.
 RECORDED = re.compile(r"^\d+ (\w+)(?: .*)? -> (?!bad )([0-9a-f]+)(?= |$)", re.MULTILINE)
 
+# Numbers that pages write as words.
+NUMBER_WORDS = {"two": 2, "three": 3, "four": 4, "five": 5, "eight": 8, "ten": 10, "thirty": 30,
+                "hundred": 100}
+
+# The constant of a flag of the token; a user's wrong tries by which a flag is set; and a range of a
+# limit.
+FLAG = re.compile(r"const (\w+) = 0x([0-9a-f]+);")
+WRONG_TRIES = re.compile("(the user|the security officer) has ([0-9]) wrong tr(?:y|ies)( or more)?")
+RANGE = re.compile(rb"(\d+) to (\d+)")
+
+# A login of each user by a wrong PIN and by the right one. And each call that counts tries back,
+# behind calls that leave each user one wrong try.
+WRONG_LOGIN = {"the user": "1 Login 1 1 39393939", "the security officer": "1 Login 1 0 39393939"}
+RIGHT_LOGIN = {"the user": USER[5], "the security officer": USER[2]}
+BOTH_WRONG = [*WRONG_LOGIN.values()]
+WRONG_OLD_PIN = [WRONG_LOGIN["the user"], USER[2], "1 SetPIN 1 39393939 31323334"]
+COUNTING_BACK = {
+    "C_Login of the user": (BOTH_WRONG, USER[5]),
+    "C_Login of the security officer": (BOTH_WRONG, USER[2]),
+    "C_SetPIN of the user's PIN": (BOTH_WRONG, "1 SetPIN 1 75736572 75736572"),
+    "C_SetPIN of the security officer's PIN": (WRONG_OLD_PIN, "1 SetPIN 1 31323334 31323334"),
+    "C_InitPIN": (WRONG_OLD_PIN, USER[3]),
+    "C_InitToken": ([*BOTH_WRONG, "1 CloseSession 1"], USER[0]),
+}
+
+# Calls of which the last one is beyond a limit of 1, for each limit.
+BEYOND = [
+    [*USER[:2], "1 OpenSession 6"],
+    [*USER[:2], "1 CloseSession 1", "1 OpenSession 6"],
+    [*USER[:2], *["1 CreateObject 1 0=0000000000000000"] * 2],
+    [*USER, "1 Logout 1", USER[5]],
+]
+
+# Queries of a sensitive key with a label of two bytes, for each row of the table; and what the
+# answers of the table are.
+QUERIES = {
+    "it is a hidden value, with or without a buffer": ["11:4", "11:?"],
+    "the object doesn't have it, or the token knows no such type": ["10:8", "10:?", "999:8"],
+    "no buffer is given": ["3:?"],
+    "the buffer is shorter than the value": ["3:1", "3:0"],
+    "else": ["3:2", "3:8"],
+}
+# Lengths of buffers for a digest of 32 bytes, for each row of the table of replies by the buffer; and
+# what the replies of the table are.
+BUFFERS = {
+    "no buffer is given": ["?"],
+    "the buffer is shorter than that length": ["0", "31"],
+    "else": ["32", "33"],
+}
+BUFFER_REPLIES = {"the length of the digest or the signature": " :32", "the length": " :32",
+                  "the digest or the signature": " " + hashlib.sha256(b"a").hexdigest()}
+ANSWERS = {"unavailable": "!", "the length of the value": ":2", "the value": "=6162"}
+
 
 def read(*names):
     with open(os.path.join(*names), encoding="utf-8") as file:
@@ -172,7 +227,7 @@ class Script:
         self.call(line, f"0 {handle}")
         return handle
 
-    def play(self, tests, name):
+    def compare(self, tests):
         script = "".join(line + "\n" for line in self.calls).encode()
         output, errors, status = tests.run([], script)
         replies = output.decode().split("\n")[:-1]
@@ -180,6 +235,9 @@ class Script:
                      f"status {status}, {errors!r}, {len(replies)} replies")
         for line, reply, wanted in zip(self.calls, replies, self.replies):
             tests.expect(wanted in (None, reply), f"{line:.200}: {reply}, and not {wanted}")
+
+    def play(self, tests, name):
+        self.compare(tests)
         tests.end(name)
 
 
@@ -417,6 +475,154 @@ def calls(tests):
     tests.end("how many arguments each call takes")
 
 
+# ---- The token's flags, wrong tries, limits, and queries
+
+
+def number_in(text):
+    """A number as pages write it: in digits, with commas, as a power, as one less, or as a word."""
+    power = re.fullmatch(r"(\d+)\^(\d+)( - 1)?", text)
+    if power:
+        return int(power[1]) ** int(power[2]) - bool(power[3])
+    digits = text.replace(",", "")
+    return int(digits) if digits.isdecimal() else NUMBER_WORDS.get(text.lower())
+
+
+def is_set(where, state):
+    """Whether a flag that is set in this case is set in a token of this state."""
+    found = WRONG_TRIES.fullmatch(where)
+    if not found:
+        return where == "always (own)" or state[where]
+    tries = state[found[1]]
+    return tries >= int(found[2]) if found[3] else tries == int(found[2])
+
+
+def info_of(table, sessions=1, **changes):
+    """The reply to GetTokenInfo by the table of flags, of an initialized token whose user has a
+    PIN, after these changes of its state."""
+    state = {"the token is initialized": True, "the user has a PIN": True, "the user": 0,
+             "the security officer": 0, **changes}
+    number = sum(int(cells[1], 16) for cells in table if is_set(cells[2], state))
+    return f"0 {number:x} 64 {sessions} {sessions}"
+
+
+def flags(tests):
+    """The flags of a token without PINs, without the user's PIN, and after each wrong try; and
+    their names and numbers in the code."""
+    table = rows(tests, "flag | number (hexadecimal)")
+    said = {(name.removeprefix("CKF_"), number) for name, number, _ in table}
+    known = set(FLAG.findall(read(CRATES, "ck_types", "src", "token_flags.rt")))
+    tests.expect(said == known, f"said on the page, or known, and not both: {said ^ known}")
+    no_pin, new = {"the user has a PIN": False}, {"the token is initialized": False}
+    script = Script()
+    script.call("1 GetTokenInfo", info_of(table, 0, **no_pin, **new))
+    script.prepare(USER[:2])
+    script.call("1 GetTokenInfo", info_of(table, **no_pin))
+    script.prepare(USER[2:5])
+    script.call("1 GetTokenInfo", info_of(table))
+    wrong = {}
+    for user, number in itertools.product(WRONG_LOGIN, range(1, 4)):
+        wrong[user] = number
+        script.call(WRONG_LOGIN[user], "a0")
+        script.call("1 GetTokenInfo", info_of(table, **wrong))
+    script.play(tests, "flags of the token")
+
+
+def tries(tests):
+    """After one wrong try of each user, each call of the table counts back the tries of those in
+    whose columns it stands, and of no other."""
+    table = rows(tests, "the user | the security officer")
+    columns = {user: {row[at] for row in table if row[at]} for at, user in enumerate(WRONG_LOGIN)}
+    tests.expect(set().union(*columns.values()) == set(COUNTING_BACK), f"the calls are {columns}")
+    table = rows(tests, "flag | number (hexadecimal)")
+    for name, (before, call) in COUNTING_BACK.items():
+        script = Script()
+        script.prepare(USER[:5] + before)
+        sessions = 0 if name == "C_InitToken" else 1
+        script.call("1 GetTokenInfo", info_of(table, sessions, **dict.fromkeys(WRONG_LOGIN, 1)))
+        script.call(call, "0")
+        left = {user: int(name not in calls) for user, calls in columns.items()}
+        has_pin = {"the user has a PIN": name != "C_InitToken"}
+        script.call("1 GetTokenInfo", info_of(table, sessions, **left, **has_pin))
+        script.compare(tests)
+    tests.end("calls that count wrong tries back")
+
+
+def locks(tests):
+    """As many wrong tries as the page says lock a user, and then the right PIN isn't tried."""
+    said = re.search(r"^- (\w+) wrong tries lock a user", read(DOCS, "rules.md"), re.MULTILINE)
+    for user, login in RIGHT_LOGIN.items():
+        script = Script()
+        script.prepare(USER[:5])
+        for _ in range(number_in(said[1]) or 0 if said else 0):
+            script.call(WRONG_LOGIN[user], "a0")
+        script.call(login, "a4")
+        script.compare(tests)
+    tests.end("how many wrong tries lock a user")
+
+
+def limits(tests):
+    """The ranges are those that ck_cases takes, by the text that recorded_runs.py tries. Of cases
+    in which one limit is 1, and the others are the largest, it plays the call beyond it."""
+    table = rows(tests, "limit | range")
+    said = [[number_in(it) for it in cells[1].split(" to ")] for cells in table]
+    known = [[int(it) for it in pair] for pair in RANGE.findall(recorded_runs.BAD_LIMITS)]
+    tests.expect(said == known, f"the ranges are {said} on the page, and {known}")
+    lines = []
+    for at, (cells, calls) in enumerate(zip(table, BEYOND)):
+        code = CODED.fullmatch(cells[2])
+        limits_of_case = [1 if it == at else most for it, (_, most) in enumerate(known)]
+        lines += ["limits " + " ".join(map(str, limits_of_case)), *calls[:-1],
+                  f"{calls[-1]} -> {code and code[2]}"]
+    with tempfile.TemporaryDirectory() as folder:
+        path = os.path.join(folder, "limits.cases")
+        with open(path, "w", encoding="ascii") as file:
+            file.write("".join(line + "\n" for line in lines))
+        output, errors, status = program.Tests(recorded_runs.PROGRAM).run([path], b"")
+    tests.expect(status == 0 and f" {len(BEYOND)} passed" in output.decode(),
+                 f"cases of limits: {output.decode()} {errors}, status {status}")
+    tests.end("limits")
+
+
+def buffers(tests):
+    """The replies of the table's rows, to a single-part and to a final call."""
+    table, known = rows(tests, "| code | reply"), known_codes()
+    tests.expect({cells[0] for cells in table} == set(BUFFERS), f"the rows are not {[*BUFFERS]}")
+    script = Script()
+    script.prepare(USER)
+    for where, code, reply in table:
+        wanted = f"{known.get(code.split(' ')[0])}{BUFFER_REPLIES.get(reply)}"
+        for room in BUFFERS.get(where, []):
+            script.prepare(["1 DigestInit 1 250"])
+            script.call(f"1 Digest 1 61 {room}", wanted)
+            script.prepare(["1 SessionCancel 1 400", "1 DigestInit 1 250", "1 DigestUpdate 1 61"])
+            script.call(f"1 DigestFinal 1 {room}", wanted)
+            script.prepare(["1 SessionCancel 1 400"])
+    script.play(tests, "replies by the buffer")
+
+
+def queries(tests):
+    """The answers of the table's rows with their codes; and of several faults the code is that of
+    the first one in the table, in whatever order the queries are."""
+    table = rows(tests, "| answer | fault")
+    tests.expect({cells[0] for cells in table} == set(QUERIES), f"the rows are not {[*QUERIES]}")
+    script = Script()
+    script.prepare(USER)
+    key = script.create(creation("key", "103=01", "3=6162"))
+    faults = []
+    for where, answer, fault in table:
+        code = CODED.search(fault)
+        for query in QUERIES.get(where, []):
+            script.call(f"1 GetAttributeValue 1 {key} {query}",
+                        f"{code[2] if code else 0} {ANSWERS.get(answer)}")
+        faults += [(len(faults), query, code[2]) for query in QUERIES.get(where, [])[:1] if code]
+    for count in (2, 3):
+        for some in itertools.permutations(faults, count):
+            asked = ",".join(query for _, query, _ in some)
+            script.call(f"1 GetAttributeValue 1 {key} {asked},3:8",
+                        f"{min(some)[2]} {'!,' * count}=6162")
+    script.play(tests, "answers to queries, and their codes")
+
+
 # ---- The calls, and their checks
 
 
@@ -584,8 +790,14 @@ def main(path):
     key_states(tests)
     mechanisms(tests)
     session_states(tests)
-    checks_of_calls(tests)
     pieces(tests)
+    flags(tests)
+    tries(tests)
+    locks(tests)
+    limits(tests)
+    buffers(tests)
+    queries(tests)
+    checks_of_calls(tests)
     calls(tests)
     codes(tests)
     reasons(tests)
