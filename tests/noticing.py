@@ -60,14 +60,14 @@ SILENT = {
                                   rules.unknown_attributes, rules.values, rules.key_states,
                                   rules.mechanisms, rules.session_states, rules.pieces,
                                   rules.flags, rules.tries, rules.locks, rules.buffers,
-                                  rules.queries,
+                                  rules.queries, rules.replies,
                                   figures.scripts, figures.judges],
 }
 
 # Tests of a file, to which it is all the same which program is there.
 OTHERS = (races.shapes, rules.limits, rules.checks_of_calls, rules.codes, rules.reasons,
-          rules.statuses, rules.names_of_mechanisms, figures.readings, figures.readings_of_module, figures.times_of_calls, figures.bounds,
-          figures.bounds_of_module, figures.sections)
+          rules.statuses, rules.names_of_mechanisms, figures.readings, figures.readings_of_module,
+          figures.times_of_calls, figures.bounds, figures.bounds_of_module, figures.sections)
 
 # What a program of figures says of few calls, of many and of an audit, and whether the times can be
 # those of the calls and of the audit.
@@ -113,13 +113,25 @@ PAGES = [
     (rules.buffers, "rules.md", r"^(\| the buffer .* that length \|)[^|]*", r"\1 CKR_OK "),
     (rules.buffers, "rules.md", r"^(\| no buffer .*) the length of ", r"\1 "),
     (rules.queries, "rules.md", r"^(\| no buffer is given \|) the length of ", r"\1 "),
-    (rules.checks_of_calls, "rules.md", r"^3(\. That user .*\n)4(\. The new .*\n)", r"3\2\n4\1"),
-    (rules.checks_of_calls, "rules.md", r"^3(\. That user .*\n)4(\. The new .*\n)", r"4\2\n3\1"),
+    (rules.checks_of_calls, "rules.md", r"^3(\. That user .*\n)4(\. The new .*\n)", r"3\g<2>4\1"),
+    (rules.checks_of_calls, "rules.md", r"^3(\. That user .*\n)4(\. The new .*\n)", r"4\g<2>3\1"),
     (rules.checks_of_calls, "rules.md", r"^2\. CKA_COPYABLE is .*\n", ""),
     (rules.checks_of_calls, "rules.md", r"CKR_SESSION_EXISTS \(b6\)", "CKR_SESSION_EXISTS (b5)"),
-    (rules.checks_of_calls, "rules.md", r"^2(\. All.*\n.*\n)3(\. Cr.*\n.*\n.*\n)", r"2\2\n3\1"),
+    (rules.checks_of_calls, "rules.md", r"^2(\. All.*\n.*\n)3(\. Cr.*\n.*\n.*\n)", r"2\g<2>3\1"),
     (rules.calls, "script.md", r"^\| `SetPIN` \| session, ", "| `SetPIN` | "),
     (rules.calls, "script.md", r"^\| `SetPIN` .*\n", ""),
+    (rules.arguments, "script.md", r"^\| caller \| `1` to `8` ", "| caller | `1` to `9` "),
+    (rules.arguments, "script.md", r"^\| flags .*no `0x`, ", "| flags | hexadecimal, "),
+    (rules.arguments, "script.md", r"^\| queries .*\n", ""),
+    (rules.replies, "script.md", r"^\| a session \| a space, the state in decimal",
+     "| a session | a space, the state in hexadecimal"),
+    (rules.replies, "script.md", r"^Hexadecimal is in lower ", "Hexadecimal is in upper "),
+    (rules.replies, "script.md", r"^\| mechanisms \|.*\n", ""),
+    (rules.faults_of_lines, "script.md", r"^2(\. the first .*\n)3(\. fewer .*\n)", r"2\g<2>3\1"),
+    (rules.faults_of_lines, "script.md", r"^3\. fewer than two words, the caller, ",
+     "3. the caller, fewer than two words, "),
+    (rules.faults_of_lines, "script.md", r"^(\| a tab .*\n)(\| a second space.*\n)", r"\2\1"),
+    (rules.faults_of_lines, "script.md", r"^5\. a caller above N.*\n", ""),
     (rules.codes, "script.md", r"^\| `b3` \| CKR_", "| `b4` | CKR_"),
     (rules.codes, "script.md", r"^\| `b3` \| CKR_.*\n", ""),
     (rules.reasons, "script.md", r"^\| a tab \| `there is ", "| a tab | `there isn't "),

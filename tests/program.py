@@ -109,23 +109,30 @@ CARRIAGE_RETURN = b"a carriage return stands at the end of the line"
 TAB = b"there is a tab in the line: single spaces separate its words"
 NOT_DECIMAL = b"a number is written in decimal digits"
 NO_CODE_NUMBER = b"a code number is written in the digits 0 to 9 and a to f, without 0x"
+LEADING_ZERO = b"a number has no leading zero"
+TOO_LARGE = b"a number is below 2^64"
+NO_BYTES = b"bytes are written in two hexadecimal digits each, and no bytes as -"
+NO_MECHANISM = b"a mechanism is written as type, or with its parameter as type:bytes"
 NO_TEMPLATE = b"a template is written as type=bytes,.. and an empty one as -"
+NO_QUERIES = b"queries are written as type:room,.. and none as -"
+FEW_WORDS = b"a line is a caller, a call and its arguments"
+NO_CALLER = b"the caller is a number from 1 to 8"
+LOGIN_TAKES_3 = b"Login takes 3 arguments"
 NO_CALL = b"no call has this name"
 
 # A bad line, and the reason that is given.
 BAD_LINES = [
-    (b"Nope", b"a line is a caller, a call and its arguments"),
-    (b"0 Logout 1", b"the caller is a number from 1 to 8"),
-    (b"9 Logout 1", b"the caller is a number from 1 to 8"),
+    (b"Nope", FEW_WORDS),
+    (b"0 Logout 1", NO_CALLER),
+    (b"9 Logout 1", NO_CALLER),
     (b"1 Nope", NO_CALL),
     (b"1 Logn 1 1 31", NO_CALL + b", the nearest is Login"),
-    (b"1 Login 1 1", b"Login takes 3 arguments"),
+    (b"1 Login 1 1", LOGIN_TAKES_3),
     (b"1 Logout x", NOT_DECIMAL),
-    (b"1 Logout 01", b"a number has no leading zero"),
-    (b"1 Logout 18446744073709551616", b"a number is below 2^64"),
+    (b"1 Logout 01", LEADING_ZERO),
+    (b"1 Logout 18446744073709551616", TOO_LARGE),
     (b"1 OpenSession 0x6", NO_CODE_NUMBER),
-    (b"1 InitToken 313",
-     b"bytes are written in two hexadecimal digits each, and no bytes as -"),
+    (b"1 InitToken 313", NO_BYTES),
     (b"1 Logout  1", TOO_MANY_SPACES),
     (b" # x", TOO_MANY_SPACES),
     (b"1 Logout 1\r", CARRIAGE_RETURN),
@@ -133,12 +140,11 @@ BAD_LINES = [
     (b"1 Logout\t1", TAB),
     (b"1 Logout 1\r2", NOT_DECIMAL),
     (b"1 Logout \xef\xbb\xbf1", NOT_DECIMAL),
-    (b"\xef\xbb1 Logout 1", b"the caller is a number from 1 to 8"),
+    (b"\xef\xbb1 Logout 1", NO_CALLER),
     (b"\xef\xbb\xbf1 Logout 1", BYTE_ORDER_MARK),
-    (b"1 DigestInit 1 250:00:00",
-     b"a mechanism is written as type, or with its parameter as type:bytes"),
+    (b"1 DigestInit 1 250:00:00", NO_MECHANISM),
     (b"1 CreateObject 1 3", NO_TEMPLATE),
-    (b"1 GetAttributeValue 1 1 3", b"queries are written as type:room,.. and none as -"),
+    (b"1 GetAttributeValue 1 1 3", NO_QUERIES),
 ]
 
 # A line with several faults, and the one that is named: the first in the order of docs/script.md.
@@ -154,14 +160,14 @@ LINES_WITH_FAULTS = [
     (b"9\tNope", TAB),
     (b"9  Logout 1", TOO_MANY_SPACES),
     (b"Nope ", TOO_MANY_SPACES),
-    (b"9", b"a line is a caller, a call and its arguments"),
-    (b"9 Nope", b"the caller is a number from 1 to 8"),
+    (b"9", FEW_WORDS),
+    (b"9 Nope", NO_CALLER),
     (b"1 Nope x 01", NO_CALL),
-    (b"1 Login x 1", b"Login takes 3 arguments"),
+    (b"1 Login x 1", LOGIN_TAKES_3),
     # the first bad argument of two, of three and of four
     (b"1 SessionCancel x 0x400", NOT_DECIMAL),
     (b"1 Login x 01 3", NOT_DECIMAL),
-    (b"1 Login 1 01 3", b"a number has no leading zero"),
+    (b"1 Login 1 01 3", LEADING_ZERO),
     (b"1 SignInit x 251 01", NOT_DECIMAL),
     (b"1 GenerateKey x 0x350 - 6", NOT_DECIMAL),
     (b"1 GenerateKey x 350 3 00", NOT_DECIMAL),
@@ -381,7 +387,7 @@ def callers(tests):
     tests.check(["--callers", "5"], b"1 GetTokenInfo\n8 GetTokenInfo\n", b"",
                 *bad_script(2, b"the caller is a number from 1 to 5"))
     tests.check(["--callers", "2"], b"3 Login x\n", b"",
-                *bad_script(1, b"Login takes 3 arguments"))
+                *bad_script(1, LOGIN_TAKES_3))
     tests.end("callers in threads")
 
 

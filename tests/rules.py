@@ -124,6 +124,117 @@ UNDECIDED = "CloseAllSessions"
 # A call of a case, with the code of its reply.
 RECORDED = re.compile(r"^\d+ (\w+)(?: .*)? -> (?!bad )([0-9a-f]+)(?= |$)", re.MULTILINE)
 
+# The rows of the table of arguments: what each says, lines with such an argument, texts that are
+# read, and texts that aren't, with the reasons.
+NUMBERS = (["0", "7", "10", str(2 ** 64 - 1)],
+           {"x": program.NOT_DECIMAL, "a": program.NOT_DECIMAL, "0x6": program.NOT_DECIMAL,
+            "-": program.NOT_DECIMAL, "07": program.LEADING_ZERO, "00": program.LEADING_ZERO,
+            str(2 ** 64): program.TOO_LARGE})
+CODE_NUMBERS = (["0", "9", "9af", "f" * 16],
+                {"A": program.NO_CODE_NUMBER, "g": program.NO_CODE_NUMBER,
+                 "0x6": program.NO_CODE_NUMBER, "-": program.NO_CODE_NUMBER,
+                 "06": program.LEADING_ZERO, "1" + "0" * 16: program.TOO_LARGE})
+BYTES = (["00", "aA", "Ff09", "-"], {"0": program.NO_BYTES, "0g": program.NO_BYTES,
+                                     "0x00": program.NO_BYTES, "--": program.NO_BYTES})
+
+
+def with_types(end, others, reasons):
+    """Texts that begin with a type and end so, and others."""
+    good, bad = CODE_NUMBERS
+    return ([it + end for it in good] + others,
+            {**{it + end: reason for it, reason in bad.items() if it != "-" or end}, **reasons})
+
+
+ARGUMENTS = {
+    "caller": ("`1` to `8`", ["{} GetTokenInfo"], list("12345678"),
+               {it: program.NO_CALLER for it in ("0", "9", "x", "01", "10")}),
+    "session, object, key": (
+        "a handle: decimal, no leading zeros, below 2^64",
+        ["1 Logout {}", "1 DestroyObject 1 {}", "1 SignInit 1 251 {}"], *NUMBERS),
+    "user": ("a number like a handle: 0 the security officer, 1 the normal user; the call refuses "
+             "others", ["1 Login 1 {} 31"], *NUMBERS),
+    "max": ("a number like a handle: the most handles that the reply may have",
+            ["1 FindObjects 1 {}"], *NUMBERS),
+    "state": ("a number like a handle: the state that the key goes to; the call refuses numbers of "
+              "no state", ["1 SetKeyState 1 1 {}"], *NUMBERS),
+    "room": ("a number like a handle: the length of the output buffer; or `?`, no buffer, which "
+             "asks only for the length",
+             ["1 Digest 1 - {}", "1 DigestFinal 1 {}", "1 Sign 1 - {}", "1 SignFinal 1 {}"],
+             [*NUMBERS[0], "?"], {**NUMBERS[1], "??": program.NOT_DECIMAL}),
+    "flags": ("hexadecimal with digits `0` to `9` and `a` to `f`, no `0x`, no leading zeros, below "
+              "2^64", ["1 OpenSession {}", "1 SessionCancel 1 {}"], *CODE_NUMBERS),
+    "pin, signature, all bytes": (
+        "two hexadecimal digits of either case for each; `-` for no bytes",
+        ["1 InitToken {}", "1 InitPIN 1 {}", "1 SetPIN 1 {} 31", "1 SetPIN 1 31 {}",
+         "1 Login 1 1 {}", "1 Digest 1 {} ?", "1 DigestUpdate 1 {}", "1 Sign 1 {} ?",
+         "1 SignUpdate 1 {}", "1 Verify 1 {} 31", "1 Verify 1 31 {}", "1 VerifyUpdate 1 {}",
+         "1 VerifyFinal 1 {}", "1 GenerateKey 1 350 - {}"], *BYTES),
+    "mechanism": (
+        "`type`, or `type:bytes` with a parameter; a type is written as flags are",
+        ["1 DigestInit 1 {}", "1 SignInit 1 {} 1", "1 VerifyInit 1 {} 1",
+         "1 GenerateKey 1 {} - 00"],
+        *with_types("", ["250:00", "250:-"],
+                    {"-": program.NO_CODE_NUMBER, "250:0": program.NO_BYTES,
+                     "250:00:00": program.NO_MECHANISM, "0x250:00": program.NO_CODE_NUMBER})),
+    "template": (
+        "items `type=bytes` joined by commas, or `-` for none; a type is written as flags are",
+        ["1 CreateObject 1 {}", "1 GenerateKey 1 350 {} 00", "1 CopyObject 1 1 {}",
+         "1 SetAttributeValue 1 1 {}", "1 FindObjectsInit 1 {}"],
+        *with_types("=00", ["-", "3=6162,10=-", "0=00,1=01,3=-"],
+                    {**dict.fromkeys(["3", "3=00,", "3=00,-"], program.NO_TEMPLATE),
+                     "3=0": program.NO_BYTES})),
+    "queries": (
+        "queries `type:room` joined by commas, or `-` for none", ["1 GetAttributeValue 1 1 {}"],
+        *with_types(":8", ["-", "3:?", "3:8,11:?", "3:0,10:1,11:?"],
+                    {**dict.fromkeys(["3", "3:8,", "3:8,-"], program.NO_QUERIES),
+                     "3:x": program.NOT_DECIMAL, "3:08": program.LEADING_ZERO})),
+}
+
+# The rows of the table of replies: what each says, and calls with their replies, which are made one
+# after the other for all rows.
+REPLIES = {
+    "nothing": ("nothing", {"1 InitToken 31323334": "0"}),
+    "a handle": ("a space and the handle in decimal", {
+        "1 OpenSession 6": "0 1", "1 Login 1 0 31323334": "0", "1 InitPIN 1 75736572": "0",
+        "1 Logout 1": "0", "1 Login 1 1 75736572": "0",
+        "1 CreateObject 1 0=0000000000000000,3=6162": "0 1",
+        "1 CreateObject 1 0=0000000000000000,2=01": "0 4294967298"}),
+    "a session": ("a space, the state in decimal, a space, the flags in hexadecimal",
+                  {"1 GetSessionInfo 1": "0 3 6"}),
+    "the token": ("the token's flags in hexadecimal, then three counts in decimal, each after a "
+                  "space", {"1 GetTokenInfo": "0 40c 64 1 1"}),
+    "answers to queries": (
+        "a space and the answers joined by commas, or `-` where there are none",
+        {"1 GetAttributeValue 1 1 3:8,11:?,3:?,11:8": "0 =6162,:0,:2,=-",
+         "1 GetAttributeValue 1 1 -": "0 -", "1 GetAttributeValue 1 1 100:8": "12 !"}),
+    "handles": (
+        "a space and the handles in decimal joined by commas, or `-` where there are none",
+        {"1 FindObjectsInit 1 -": "0", "1 FindObjects 1 9": "0 1,4294967298",
+         "1 FindObjects 1 10": "0 -"}),
+    "mechanisms": ("a space and their types in hexadecimal joined by commas", {
+        "1 GetMechanismList": "0 250,251,252,255,256,257,260,261,262,270,271,272,350"}),
+    "a digest or a signature": ("a space and its bytes in hexadecimal", {
+        "1 DigestInit 1 250": "0", "1 Digest 1 61 32": "0 " + hashlib.sha256(b"a").hexdigest()}),
+    "the length of a digest or a signature": ("a space, `:` and the length in decimal", {
+        "1 DigestInit 1 270": "0", "1 Digest 1 61 ?": "0 :64", "1 DigestFinal 1 63": "150 :64"}),
+}
+LETTERS = "Hexadecimal is in lower case, without leading zeros in codes and flags."
+
+# The faults of a line: the reason that is given, and what is then another part of the line.
+FAULTS = {
+    "its length": (program.TOO_LONG, {"more": b"1" * program.LONGEST_LINE}),
+    "a byte order mark at its beginning": (program.BYTE_ORDER_MARK, {"front": b"\xef\xbb\xbf"}),
+    "a carriage return at its end": (program.CARRIAGE_RETURN, {"end": b"\r"}),
+    "a tab": (program.TAB, {"gap": b"\t"}),
+    "a second space, or one at an end": (program.TOO_MANY_SPACES, {"between": b"  "}),
+    "fewer than two words": (program.FEW_WORDS, {"name": b"", "first": b"", "rest": b""}),
+    "the caller": (program.NO_CALLER, {"caller": b"9"}),
+    "the call's name": (program.NO_CALL, {"name": b"Nope"}),
+    "the count of its arguments": (program.LOGIN_TAKES_3, {"rest": b" 1"}),
+    "the first bad argument": (program.NOT_DECIMAL, {"first": b"x"}),
+    "a caller above N": (program.CALLER_ABOVE_2, {"caller": b"3"}),
+}
+
 # Numbers that pages write as words.
 NUMBER_WORDS = {"two": 2, "three": 3, "four": 4, "five": 5, "eight": 8, "ten": 10, "thirty": 30,
                 "hundred": 100}
@@ -166,8 +277,8 @@ QUERIES = {
     "the buffer is shorter than the value": ["3:1", "3:0"],
     "else": ["3:2", "3:8"],
 }
-# Lengths of buffers for a digest of 32 bytes, for each row of the table of replies by the buffer; and
-# what the replies of the table are.
+# Lengths of buffers for a digest of 32 bytes, for each row of the table of replies by the buffer;
+# and what the replies of the table are.
 BUFFERS = {
     "no buffer is given": ["?"],
     "the buffer is shorter than that length": ["0", "31"],
@@ -729,6 +840,74 @@ def checks_of_calls(tests):
     tests.end("the checks of each call on the page of rules")
 
 
+def arguments(tests):
+    """Each row of the table of arguments: texts that it allows are read, and others aren't, with
+    their reasons."""
+    table = rows(tests, "argument | text")
+    said, known = dict(table), {name: text for name, (text, *_) in ARGUMENTS.items()}
+    tests.expect(said == known, f"the page, or what is played: {said.items() ^ known.items()}")
+    script = Script()
+    for _, lines, good, bad in ARGUMENTS.values():
+        for line in lines:
+            script.prepare([line.format(text) for text in good])
+            for text, reason in bad.items():
+                program.check_bad_line(tests, line.format(text).encode(), reason)
+    script.play(tests, "how arguments are written")
+
+
+def replies(tests):
+    """Each row of the table of replies, by calls that are answered so."""
+    said = dict(rows(tests, "what comes with the code | text after the code"))
+    known = {name: text for name, (text, _) in REPLIES.items()}
+    tests.expect(said == known, f"the page, or what is played: {said.items() ^ known.items()}")
+    page = " ".join(read(DOCS, "script.md").split())
+    tests.expect(LETTERS in page, f"the page of scripts doesn't say: {LETTERS}")
+    script = Script()
+    for _, calls in REPLIES.values():
+        for line, reply in calls.items():
+            script.call(line, reply)
+    script.play(tests, "how replies are written")
+
+
+def order_of_faults(tests):
+    """The faults of a line in the order of the page, which names some by their table."""
+    _, _, said = read(DOCS, "script.md").partition("one is named, the first in this order:\n\n")
+    table = rows(tests, "what is wrong | text")
+    for item in re.findall(r"^\d\. (.*)[;.]$", said.partition("\n\n")[0], re.MULTILINE):
+        yield from ([cells[0] for cells in table[1:5]] if "the table's next four" in item
+                    else item.split(", "))
+
+
+def faulty_line(faults):
+    """A line with these faults, or none where no line has all of them."""
+    if len({*faults} & {"the caller", "a caller above N"}) == 2:
+        return None
+    parts = {"front": b"", "caller": b"1", "gap": b" ", "name": b"Login", "between": b" ",
+             "first": b"1", "rest": b" 1 31", "more": b"", "end": b""}
+    for fault in faults:
+        parts.update(FAULTS[fault][1])
+    if "fewer than two words" in faults:
+        if {*faults} & {"the call's name", "the count of its arguments", "the first bad argument"}:
+            return None
+        parts["gap"] = parts["gap"].replace(b" ", b"")
+        parts["between"] = parts["between"][1:]
+    return b"".join(parts.values())
+
+
+def faults_of_lines(tests):
+    """Of each two faults of a line the one is named that comes first on the page."""
+    order = list(order_of_faults(tests))
+    tests.expect(sorted(order) == sorted(FAULTS), f"the faults are {order}")
+    for faults in itertools.combinations(order, 2):
+        line = faulty_line(faults) if {*faults} <= {*FAULTS} else None
+        is_above = "a caller above N" in faults
+        if line:
+            tests.check(["--callers", "2"] if is_above else [], b"1 InitToken 31323334\n" + line,
+                        b"" if is_above else b"0\n",
+                        *program.bad_script(2, FAULTS[faults[0]][0]))
+    tests.end("which of two faults of a line is named")
+
+
 # ---- What pages say that is said elsewhere
 
 
@@ -799,6 +978,9 @@ def main(path):
     queries(tests)
     checks_of_calls(tests)
     calls(tests)
+    arguments(tests)
+    replies(tests)
+    faults_of_lines(tests)
     codes(tests)
     reasons(tests)
     statuses(tests)
