@@ -66,8 +66,10 @@ SILENT = {
 
 # Tests of a file, to which it is all the same which program is there.
 OTHERS = (races.shapes, rules.limits, rules.checks_of_calls, rules.codes, rules.reasons,
-          rules.statuses, rules.names_of_mechanisms, figures.readings, figures.readings_of_module,
-          figures.times_of_calls, figures.bounds, figures.bounds_of_module, figures.sections)
+          rules.statuses, rules.names_of_mechanisms, rules.names_of_arguments,
+          rules.functions_of_programs, rules.laws, rules.races_of_threads, rules.numbers_of_pages,
+          figures.readings, figures.readings_of_module, figures.times_of_calls, figures.bounds,
+          figures.bounds_of_module, figures.sections)
 
 # What a program of figures says of few calls, of many and of an audit, and whether the times can be
 # those of the calls and of the audit.
@@ -140,6 +142,30 @@ PAGES = [
     (rules.statuses, "script.md", r"^\| 3 \| reading failed .*\n", ""),
     (rules.names_of_mechanisms, "rust.md", "250, 260, 270", "260, 250, 270"),
     (rules.names_of_mechanisms, "rules.md", "251 CKM_SHA256_HMAC ", "251 CKM_SHA384_HMAC "),
+    (rules.names_of_arguments, "rust.md", r"\| 4, 2, 6 \|", "| 2, 4, 6 |"),
+    (rules.names_of_arguments, "rust.md", "400, 800, 2000", "800, 400, 2000"),
+    (rules.names_of_arguments, "rust.md", "CKU_SO, CKU_USER", "CKU_USER, CKU_SO"),
+    (rules.names_of_arguments, "rust.md", r"CKK_GENERIC_SECRET \| 10 ", "CKK_GENERIC_SECRET | 16 "),
+    (rules.functions_of_programs, "rust.md", r"^\| `Template::secret_key\(", "| `Template::key("),
+    (rules.functions_of_programs, "rust.md", r"^(\| `Mechanism::new\(alloc), kind", r"\1"),
+    (rules.functions_of_programs, "rust.md", r"^(\| `\.class\(class\))\?", r"\1"),
+    (rules.functions_of_programs, "rust.md", r"`length`, `attributes`", "`lengths`, `attributes`"),
+    (rules.laws, "laws.md", r"`CopiesStaySensitive` \| A", "`CopiesStaySensitiv` | A"),
+    (rules.laws, "laws.md", r"^\| `TriesAreAtMostThree` .*\n", ""),
+    (rules.laws, "laws.md", r"^(\| `SensitiveStays`)(.*\n)(\| `Unex\w+`)(.*\n)",
+     r"\1\4\3\2"),
+    (rules.laws, "laws.md", r"^(\| `CutLaw` \| .*\n)", ""),
+    (rules.races_of_threads, "threads.md", "handles 63 and 64 once", "handles 62 and 63 once"),
+    (rules.races_of_threads, "threads.md", "three times CKR_PIN_INC", "four times CKR_PIN_INC"),
+    (rules.races_of_threads, "threads.md", r"^(\| one .* deactivates .*)FUNCTION_NOT_PERMITTED",
+     r"\1HANDLE_INVALID"),
+    (rules.races_of_threads, "threads.md", r"^\| four search on .*\n", ""),
+    (rules.numbers_of_pages, "architecture.md", "looks for the lock 11 times",
+     "looks for the lock 12 times"),
+    (rules.numbers_of_pages, "architecture.md", "call that brings 4,096 bytes",
+     "call that brings 4,095 bytes"),
+    (rules.numbers_of_pages, "rules.md", r"is its number plus\n  2\^32", "is its number plus 2^31"),
+    (rules.numbers_of_pages, "../README.md", "It has 34 calls", "It has 35 calls"),
 ]
 
 EDITS = "crates/*/must-fail/*.edit"
@@ -447,6 +473,7 @@ def changed_pages(checks):
     docs = rules.DOCS
     with tempfile.TemporaryDirectory() as folder:
         rules.DOCS = shutil.copytree(docs, os.path.join(folder, "docs"))
+        shutil.copy(os.path.join(ROOT, "README.md"), folder)
         for test, *change_of in PAGES:
             path, text = change(rules.DOCS, *change_of)
             words = words_of(rules, test, rules.PROGRAM)

@@ -235,6 +235,95 @@ FAULTS = {
     "a caller above N": (program.CALLER_ABOVE_2, {"caller": b"3"}),
 }
 
+# Where the numbers of names stand that programs give to calls, those first of which others are
+# made; a constant, and a variant with its number; and the standard's numbers.
+NAMED = ["ck_types/src/users.rt", "ck_journal/src/session_flags.rt",
+         "ck_journal/src/operations.rt", "ck_objects/src/forms.rt", "ck_objects/src/attributes.rt"]
+CONSTANT = re.compile(r"^(?:pub(?:\(\w+\))? )?const (\w+): \w+ = ([\w <|]+);", re.MULTILINE)
+VARIANT = re.compile(r"^ +(?:\w+::)?(\w+) =>? (0x[0-9a-f]+|\d+|[A-Z_]{2,}),$", re.MULTILINE)
+STANDARD = {"CKU_SO": 0, "CKU_USER": 1, "CKF_SERIAL_SESSION": 4, "CKF_RW_SESSION": 2,
+            "CKF_DIGEST": 0x400, "CKF_SIGN": 0x800, "CKF_VERIFY": 0x2000, "CKO_DATA": 0,
+            "CKO_SECRET_KEY": 4, "CKK_GENERIC_SECRET": 0x10, "both": 6}
+
+# A function as the page of programs shows it, and the front of one's contract.
+SHOWN = re.compile(r"(?:(?P<owner>\w+)::|\.)?(?P<name>\w+)(?:\((?P<given>.*)\)(?P<asks>\?)?)?")
+HEAD = re.compile(r".*?fn \w+(?:<[^(]*>)?\((.*?)\)(?: -> (.*))?")
+
+# A law on the page, with its words; a statement in the specs; and a function that proves one, with
+# its comment. And where the page speaks of the laws of cuts.
+LAW = re.compile(r"^\| `(\w+)` \| (.*) \|$", re.MULTILINE)
+STATEMENT = re.compile(r"^abbrev pub (\w+) : Type 0$", re.MULTILINE)
+FILES_OF_LAWS = ("Laws.antt", "KeyLaws.antt", "LawsOverEvents.antt", "Cuts.antt")
+PROVED = re.compile(r"((?:///.*\n)+)pub fn \w+\(\)\n *ensures \{ (\w+) \}")
+CUT_TITLE = "## Why a cut changes nothing"
+
+# How the race begins that shows a row of the table of races. The last row is shown by asks.rt.
+RACES = {
+    "one signs in pieces, another destroys the key":
+        "A key is destroyed before the last piece of a signature",
+    "one signs in pieces, another logs out": "A logout ends the operations of all sessions.",
+    "one signs in pieces, another deactivates the key":
+        "A key that was deactivated does not sign",
+    "one verifies in pieces, another deactivates the key":
+        "A key that was deactivated still verifies.",
+    "one signs a long message, another cancels it and starts again":
+        "C_SessionCancel ends the signature of a long message",
+    "one signs a long message, another closes the session":
+        "The session is closed while a long message is signed",
+    "two add pieces to one digest or one signature":
+        "Two callers in one session: a signature in pieces",
+    "four search on in one search":
+        "Four callers in one session: each handle of a search goes to one of them.",
+    "eight log in with a wrong PIN": "Three tries of a PIN, whoever makes them, lock it.",
+    "eight open sessions where two more may be open":
+        "At most 64 sessions, whoever opens them.",
+}
+ASKING = "one logs in, another asks without the lock"
+REPLY = re.compile(r"^(\d+) .* -> (.*)$", re.MULTILINE)
+
+# Numbers on pages that are constants: the page, the words with the number, and where the constant
+# stands.
+NUMBERS_ON_PAGES = [
+    ("../README.md", r"also from up to (\w+) threads", "ck_journal/src/calls.rt", "MOST_CALLERS"),
+    ("threads.md", r"numbered from 1, at most (\w+)\.", "ck_journal/src/calls.rt", "MOST_CALLERS"),
+    ("threads.md", r"A call with (\S+) bytes of a message or more", "ck_journal/src/calls.rt",
+     "LONG_MESSAGE"),
+    ("architecture.md", r"where the call brings (\S+) bytes or more", "ck_journal/src/calls.rt",
+     "LONG_MESSAGE"),
+    ("architecture.md", r"A call that brings (\S+) bytes or more", "ck_journal/src/calls.rt",
+     "LONG_MESSAGE"),
+    ("architecture.md", r"A message of fewer than (\S+) bytes is", "ck_journal/src/calls.rt",
+     "LONG_MESSAGE"),
+    ("architecture.md", r"looks for the lock (\w+) times", "ck_shared/src/shared.rt", "LOOKS"),
+    ("architecture.md", r"in three ways, a (\w+) times each", "ck_races/src/runs.rt", "RUNS"),
+    ("architecture.md", r"has the lock for (\w+) milliseconds", "ck_races/src/gates.rt", "HELD"),
+    ("architecture.md", r"takes less than (\w+) milliseconds of processor time",
+     "ck_races/src/sleeping.rt", "MOST_TIME"),
+    ("architecture.md", r"milliseconds of processor time, in one of (\w+) tries",
+     "ck_races/src/sleeping.rt", "TRIES"),
+    ("architecture.md", r"one caller adds (\w+) messages of", "ck_races/src/free_locks.rt",
+     "MESSAGES"),
+    ("architecture.md", r"adds thirty messages of (\S+) bytes", "ck_races/src/free_locks.rt",
+     "LENGTH"),
+    ("architecture.md", r"the lock at least (\S+) times", "ck_races/src/free_locks.rt",
+     "LEAST_LOCKS"),
+    ("architecture.md", r"ten messages of (\S+) bytes", "ck_races/src/behind_calls.rt", "LENGTH"),
+    ("architecture.md", r"on a token that isn't shared, in one of (\w+) tries",
+     "ck_races/src/behind_calls.rt", "TRIES"),
+    ("rules.md", r"A PIN that is set has (\w+) to 64 bytes", "ck_types/src/pins.rt",
+     "SHORTEST_PIN"),
+    ("rules.md", r"A PIN that is set has 4 to (\w+) bytes", "ck_types/src/pins.rt", "LONGEST_PIN"),
+    ("rules.md", r"Its value has 1 to (\w+) bytes", "ck_objects/src/templates.rt", "LONGEST_KEY"),
+    ("rules.md", r"and each piece, has at most (\S+) bytes", "ck_journal/src/operations.rt",
+     "LONGEST_PIECE"),
+    ("rules.md", r"is its number plus (\S+) for each login", "ck_journal/src/views.rt",
+     "HANDLES_PER_LOGIN"),
+    ("script.md", r"A line has at most (\S+) bytes", "ck_script/src/lines.rt", "LONGEST_LINE"),
+    ("script.md", r"come to its end in (\S+) reads", "ck_plays/src/plays.rt", "MOST_READS"),
+    ("script.md", r"A name of at most (\w+) bytes is near", "ck_script/src/similar_names.rt",
+     "LONGEST_TEXT"),
+]
+
 # Numbers that pages write as words.
 NUMBER_WORDS = {"two": 2, "three": 3, "four": 4, "five": 5, "eight": 8, "ten": 10, "thirty": 30,
                 "hundred": 100}
@@ -961,6 +1050,157 @@ def names_of_mechanisms(tests):
     tests.end("names of mechanisms on the page of programs")
 
 
+def number_of(value, known):
+    """The number of a constant's text: a number, a shift of one, or names joined by bars."""
+    names = value.split(" | ")
+    if known.keys() >= {*names}:
+        return sum(known[name] for name in names)
+    number, _, shift = value.replace("_", "").partition(" << ")
+    return int(number, 0) << int(shift or 0)
+
+
+def constants_of(path):
+    """The constants of a file, by their names."""
+    known = {}
+    for name, value in CONSTANT.findall(read(CRATES, *path.split("/"))):
+        known[name] = number_of(value, known)
+    return known
+
+
+def named_numbers():
+    """The numbers of the names that programs give to calls: of constants, and of variants."""
+    known = {}
+    for path in NAMED:
+        known.update(constants_of(path))
+        for name, value in VARIANT.findall(read(CRATES, *path.split("/"))):
+            known.setdefault(name, number_of(value, known))
+    return known
+
+
+def names_of_arguments(tests):
+    """The rows of names that aren't mechanisms have the standard's names and numbers, and those of
+    the code."""
+    known, table = named_numbers(), rows(tests, "name | the standard's")
+    said = [cells for cells in table if re.match("CK[UFOK]_", cells[1])]
+    tests.expect(len(said) == 5, f"{len(said)} rows of names with numbers")
+    for names, standard, numbers in said:
+        names = [name.split("::")[-1] for name in QUOTED.findall(names)]
+        numbers = [int(it, 16) for it in numbers.split(" (")[0].split(", ")]
+        wanted = [known.get(name) for name in names]
+        tests.expect(wanted in (numbers, numbers * 2), f"{names}: {numbers}, and not {wanted}")
+        of_standard = [STANDARD.get(it) for it in standard.split(", ")]
+        tests.expect(of_standard == numbers, f"{standard}: {numbers}, and not {of_standard}")
+    tests.end("names and numbers on the page of programs")
+
+
+def heads_of_functions():
+    """The functions with contracts: the names of what each is given except itself, and whether it
+    gives a result."""
+    heads = {}
+    for path in glob.glob(os.path.join(CRATES, "*", "src", "**", "*.rt"), recursive=True):
+        for name, _, lines in contracts.contracts_in(path):
+            given, result = HEAD.match(" ".join(" ".join(lines).split())).groups()
+            given = [it.split(":")[0] for it in re.split(r",\s*", given.strip(" ,")) if it]
+            heads[name] = ([it for it in given if not it.endswith("self")],
+                           (result or "").startswith("Result<"))
+    return heads
+
+
+def functions_of_programs(tests):
+    """The functions of the page have contracts, are given as many arguments as are shown, and give
+    a result where a question mark stands."""
+    heads, owner = heads_of_functions(), ""
+    for names, _ in rows(tests, "function | makes"):
+        for shown in QUOTED.findall(names):
+            found = SHOWN.fullmatch(shown)
+            owner = found["owner"] or owner
+            given, is_result = heads.get(f"{owner}::{found['name']}", (None, False))
+            tests.expect(given is not None, f"{shown}: there is no such function of {owner}")
+            if given is not None and found["given"]:
+                shown_given = found["given"].split(", ")
+                tests.expect(len(given) == len(shown_given) and is_result == bool(found["asks"]),
+                             f"{shown} is given {given}, and gives a result: {is_result}")
+    tests.end("functions on the page of programs")
+
+
+def likeness(first, second):
+    """How many words two texts have in common, of those that one of them has."""
+    first, second = ({*re.findall(r"\w+", text.lower())} for text in (first, second))
+    return len(first & second) / len(first | second)
+
+
+def laws(tests):
+    """The names on the page are those of the laws that are proved, and stand in the specs; those of
+    wrong definitions are the same. And no two laws have the words of one another: with these
+    exchanged they would be more like the comments in the code."""
+    laws_of_keys, _, wrong = read(DOCS, "laws.md").partition("## Wrong definitions")
+    words = dict(LAW.findall(laws_of_keys))
+    specs = {name for it in FILES_OF_LAWS
+             for name in STATEMENT.findall(read(CRATES, "ck_journal", "specs", it))}
+    comments = {name: comment for it in ("laws.rt", "cuts.rt")
+                for comment, name in PROVED.findall(read(CRATES, "ck_journal", "src", it))}
+    of_cuts = {name for name in comments if f"`{name}`" in part_of("laws.md", CUT_TITLE)}
+    said = [name for name, _ in LAW.findall(laws_of_keys)] + sorted(of_cuts)
+    tests.expect(sorted(said) == sorted(comments), f"the laws on the page are {said}")
+    turned = {name for name, _ in LAW.findall(wrong)}
+    tests.expect(turned == {*comments}, f"wrong definitions, or laws: {turned ^ {*comments}}")
+    tests.expect({*comments} <= specs, f"not in the specs: {comments.keys() - specs}")
+    for one, other in itertools.combinations(comments.keys() & words.keys(), 2):
+        right = likeness(words[one], comments[one]) + likeness(words[other], comments[other])
+        wrong = likeness(words[one], comments[other]) + likeness(words[other], comments[one])
+        tests.expect(right > wrong, f"{one} and {other} seem to have each other's words")
+    tests.end("the page of laws")
+
+
+def race_faults(what, comes, race):
+    """Where a race has others than the page says: as many callers as the row begins with; the
+    codes, which are the first ones by which calls of theirs are refused; how often a code comes;
+    and handles, each of which comes once."""
+    replies = REPLY.findall(race.partition("\ntogether")[2].partition("\nafterwards")[0])
+    callers = {caller for caller, _ in replies}
+    if len(callers) != (number_in(what.split(" ")[0]) or 2):
+        yield f"{len(callers)} callers"
+    texts = [reply for _, reply in replies]
+    refused = without_repeats(it for it in texts if it.split(" ")[0] != "0")
+    codes = [known_codes().get(name) for name in CODE_NAME.findall(comes)]
+    if codes != refused[:len(codes)]:
+        yield f"calls are refused by {refused}"
+    for count, name in re.findall(r"(\w+) times (CKR_\w+)", comes):
+        if texts.count(known_codes().get(name)) != number_in(count):
+            yield f"{count} times {name}"
+    for handle in re.findall(r"\b\d+\b", comes):
+        if texts.count(f"0 {handle}") != 1:
+            yield f"the handle {handle}"
+
+
+def races_of_threads(tests):
+    """Each row of the table of races is shown by a race of ck_races, except that of questions."""
+    races = read(CRATES, "ck_races", "data", "callers.races").split("\n\n")
+    table = dict(rows(tests, "what callers do at once | what comes"))
+    tests.expect({*table} == {*RACES, ASKING}, f"said, or played: {table.keys() ^ RACES.keys()}")
+    for what, comment in RACES.items():
+        shown = [race for race in races if race.startswith(f"# {comment}")]
+        tests.expect(len(shown) == 1, f"{len(shown)} races begin {comment}")
+        for race in shown[:1]:
+            faults = list(race_faults(what, table.get(what, ""), race))
+            tests.expect(not faults, f"{what}: in the race: {faults}")
+    tests.end("the table of races on the page of threads")
+
+
+def numbers_of_pages(tests):
+    """Numbers on pages are those of constants, and the count of calls is that of their table."""
+    for page, words, path, name in NUMBERS_ON_PAGES:
+        found = re.search(words, " ".join(read(DOCS, page).split()))
+        number = number_in(found[1]) if found else None
+        constant = constants_of(path).get(name)
+        tests.expect(number is not None and number == constant,
+                     f"{page}: {words}: {number}, and {name} is {constant}")
+    count = re.findall(r"It has (\d+) calls", read(DOCS, "..", "README.md"))
+    there = len(rows(tests, "call | arguments"))
+    tests.expect(count == [str(there)], f"README.md: {count} calls, and not {there}")
+    tests.end("numbers on pages that are constants")
+
+
 def main(path):
     tests = program.Tests(path, "rules")
     attributes(tests)
@@ -985,6 +1225,11 @@ def main(path):
     reasons(tests)
     statuses(tests)
     names_of_mechanisms(tests)
+    names_of_arguments(tests)
+    functions_of_programs(tests)
+    laws(tests)
+    races_of_threads(tests)
+    numbers_of_pages(tests)
     return tests.status()
 
 
