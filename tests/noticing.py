@@ -67,9 +67,9 @@ SILENT = {
 # Tests of a file, to which it is all the same which program is there.
 OTHERS = (races.shapes, rules.limits, rules.checks_of_calls, rules.codes, rules.reasons,
           rules.statuses, rules.names_of_mechanisms, rules.names_of_arguments,
-          rules.functions_of_programs, rules.laws, rules.races_of_threads, rules.numbers_of_pages,
-          figures.readings, figures.readings_of_module, figures.times_of_calls, figures.bounds,
-          figures.bounds_of_module, figures.sections)
+          rules.functions_of_programs, rules.laws, rules.races_of_threads, rules.sketch_of_call,
+          rules.numbers_of_pages, figures.readings, figures.readings_of_module,
+          figures.times_of_calls, figures.bounds, figures.bounds_of_module, figures.sections)
 
 # What a program of figures says of few calls, of many and of an audit, and whether the times can be
 # those of the calls and of the audit.
@@ -160,6 +160,9 @@ PAGES = [
     (rules.races_of_threads, "threads.md", r"^(\| one .* deactivates .*)FUNCTION_NOT_PERMITTED",
      r"\1HANDLE_INVALID"),
     (rules.races_of_threads, "threads.md", r"^\| four search on .*\n", ""),
+    (rules.sketch_of_call, "architecture.md", r"^(    parts[.]res.*\n)(    journal[.]res.*\n)",
+     r"\2\1"),
+    (rules.sketch_of_call, "architecture.md", r"^    body[.]clone.*\n", ""),
     (rules.numbers_of_pages, "architecture.md", "looks for the lock 11 times",
      "looks for the lock 12 times"),
     (rules.numbers_of_pages, "architecture.md", "call that brings 4,096 bytes",

@@ -52,6 +52,9 @@ MANY = 1_000_000
 MANY_CALLS = b"1 GetTokenInfo\n" * MANY
 REPLY_TO_EACH = b"0 4 64 0 0\n"
 
+# So many items and queries of four bytes fill most of the longest line.
+MANY_ITEMS = 1_000_000
+
 # Short calls of callers in threads, and how many times they may sleep together.
 MANY_SHORT = 400_000
 MOST_SLEEPS = 20_000
@@ -375,12 +378,28 @@ def longest_lines(tests):
     tests.end("lines of 4,194,304 bytes and of one more")
 
 
+def long_lists(tests):
+    """A line may have as many queries and items as it has room for, and a value as many bytes."""
+    start = b"1 InitToken 31323334\n1 OpenSession 6\n"
+    queries = b"1 GetAttributeValue 1 1 " + b"3:?," * MANY_ITEMS + b"3:?\n"
+    items = b"1 FindObjectsInit 1 " + b"3=-," * MANY_ITEMS + b"3=-\n"
+    tests.check([], start + queries + items, b"0\n0 1\n82\n0\n", *PLAYED)
+    front = b"1 CreateObject 1 0=0000000000000000,11="
+    value = b"61" * ((LONGEST_LINE - len(front)) // 2)
+    calls = front + value + b"\n1 GetAttributeValue 1 1 11:?,11:%d\n" % (len(value) // 2)
+    tests.check([], start + calls, b"0\n0 1\n0 1\n0 :%d,=%b\n" % (len(value) // 2, value), *PLAYED)
+    tests.end("lists and values that fill the longest line")
+
+
 def callers(tests):
     for words in (["--callers", "2"], ["--callers=2"], ["--callers", "8"]):
         tests.check(words, TWO_CALLERS, b"entries 8\naudit ok\n", *PLAYED)
     tests.check(["--callers", "1"], FIRST_CALLS, b"entries 6\naudit ok\n", *PLAYED)
     tests.check(["--callers", "1"], MANY_CALLS, b"entries %d\naudit ok\n" % MANY, *PLAYED)
-    tests.check(["--callers=3"], b"3 GetTokenInfo\n", b"entries 1\naudit ok\n", *PLAYED)
+    for count in range(1, 9):
+        line = b"%d GetTokenInfo\n" % count
+        tests.check(["--callers", str(count)], line, b"entries 1\naudit ok\n", *PLAYED)
+        tests.check([f"--callers={count}"], line * 2, b"entries 2\naudit ok\n", *PLAYED)
     tests.check(["--callers", "2"], b"", b"entries 0\naudit ok\n", *PLAYED)
     tests.check(["--callers", "2"], TWO_CALLERS + b"3 GetTokenInfo\n", b"",
                 *bad_script(9, CALLER_ABOVE_2))
@@ -512,6 +531,7 @@ def main(program):
     bad_lines(tests)
     names(tests)
     longest_lines(tests)
+    long_lists(tests)
     callers(tests)
     audits(tests)
     many_changes(tests)

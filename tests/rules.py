@@ -1187,6 +1187,28 @@ def races_of_threads(tests):
     tests.end("the table of races on the page of threads")
 
 
+def body_of(path, name):
+    """The lines between the braces of a function."""
+    found = re.search(rf"^( *)(?:pub )?fn {name}\(.*?^\1\{{\n(.*?)^\1\}}$", read(CRATES, *path),
+                      re.MULTILINE | re.DOTALL)
+    return found[2] if found else ""
+
+
+def sketch_of_call(tests):
+    """The steps of one call stand in the code in the order of the page."""
+    section = part_of("architecture.md", "## One call: decide, reserve, apply, enter")
+    steps = re.findall(r"^    (\S.*?)(?: }\))?(?: +//.*)?$", section, re.MULTILINE)[:6]
+    path = ("ck_token", "src", "tokens.rt")
+    prepared = body_of(path, "call_after").replace("prepare(", body_of(path, "prepare"), 1)
+    rest = " ".join(prepared.split())
+    tests.expect(len(steps) == 6, f"the steps are {steps}")
+    for step in steps:
+        front = step.split(" caller")[0]
+        tests.expect(front in rest, f"architecture.md: {step} doesn't come then")
+        rest = rest.partition(front)[2]
+    tests.end("the sketch of one call on the page of architecture")
+
+
 def numbers_of_pages(tests):
     """Numbers on pages are those of constants, and the count of calls is that of their table."""
     for page, words, path, name in NUMBERS_ON_PAGES:
@@ -1229,6 +1251,7 @@ def main(path):
     functions_of_programs(tests)
     laws(tests)
     races_of_threads(tests)
+    sketch_of_call(tests)
     numbers_of_pages(tests)
     return tests.status()
 

@@ -71,6 +71,23 @@ def changes(count):
     return [f"1 SetAttributeValue 1 {number + 1} 3={number:08x}" for number in range(count)]
 
 
+def copies(count):
+    """Calls that copy the first object, each time with a label of its own."""
+    return [f"1 CopyObject 1 1 3={number:08x}" for number in range(count)]
+
+
+def generations(count):
+    """Calls that generate public keys, each with an identifier of its own."""
+    return [f"1 GenerateKey 1 350 161=0100000000000000,2=00,102={number:08x} 00"
+            for number in range(count)]
+
+
+def private_objects(count):
+    """Calls that create private token objects, with the user logged in, and log the user out."""
+    return ["1 Login 1 0 31323334", "1 InitPIN 1 75736572", "1 Logout 1", "1 Login 1 1 75736572",
+            *["1 CreateObject 1 0=0000000000000000,1=01,2=01"] * count, "1 Logout 1"]
+
+
 def single_results(count):
     """Calls that search for all of these objects, and get them one by one."""
     return ["1 FindObjectsInit 1 -"] + ["1 FindObjects 1 1"] * count
@@ -107,9 +124,9 @@ def sessions(count, objects=0, closing="CloseSession {}"):
         "1 " + closing.format(number + 2))]
 
 
-def logins(count):
+def logins(count, login="1 Login 1 0 31323334"):
     """Calls that log in and out."""
-    return ["1 Login 1 0 31323334", "1 Logout 1"] * count
+    return [login, "1 Logout 1"] * count
 
 
 def long_template(count):
@@ -127,7 +144,8 @@ def label_searches(tests):
     begins with another attribute, where the labels were given anew, and among keys."""
     made = creations(FEW)
     for first, attributes, other in ((made, "3", "10"), (made, "0=0000000000000000,3", "10"),
-                                     (made + changes(FEW), "3", "10"), (keys(FEW), "3", "102")):
+                                     (made + changes(FEW), "3", "10"), (keys(FEW), "3", "102"),
+                                     (creations(MANY), "3", "10")):
         scripts = (first, first + searches(SEARCHES, attributes), first + searches(SEARCHES, other))
         times = least_seconds(tests, scripts, is_faster_by_label)
         tests.expect(is_faster_by_label(*times),
@@ -149,6 +167,11 @@ EVEN = [
      lambda count: sessions(count, 2, "CloseAllSessions")),
     ("sessions beside objects of another", lambda count: creations(count) + sessions(count)),
     ("logins beside objects", lambda count: creations(count) + logins(count)),
+    ("logins beside private objects",
+     lambda count: private_objects(count) + logins(count, "1 Login 1 1 75736572")),
+    ("changes of labels", lambda count: creations(count) + changes(count)),
+    ("copies of one object", lambda count: creations(1) + copies(count)),
+    ("generated keys", generations),
     ("items of two attributes each in a template", long_template),
 ]
 
