@@ -40,6 +40,16 @@ WRONG = {
     "other arguments": 'right=$1; exec "$right" none',
 }
 
+# Scripts that run the right program, except where something is given that one test only gives: so
+# many callers, and a line that fills the longest one.
+NO_ROOM = '{ echo "ck_run: out of memory" >&2; exit 3; }'
+WRONG_FOR_ONE = [
+    *((program.callers, f'case "$*" in *--callers*{count}) exit 3;; esac; {RIGHT}')
+      for count in (5, 6, 7)),
+    (program.long_lists, 'right=$1; input=$(mktemp); trap \'rm "$input"\' EXIT; cat > "$input"; '
+     f'[ "$(wc -c < "$input")" -lt 4000000 ] || {NO_ROOM}; "$right" < "$input"'),
+]
+
 # The tests of each program, with the class that keeps what comes of them.
 TESTS = {program: program.Tests, rules: program.Tests, recorded_runs: recorded_runs.Files,
          races: recorded_runs.Files, figures: program.Tests}
@@ -53,15 +63,16 @@ FEW_OBJECTS = (10, 40, 40)
 SILENT = {
     "nothing on standard output": [program.readers, races.each_wrong_reply, races.wrong_in_parts,
                                    races.bad_lines, races.bad_files],
-    "nothing on standard error": [program.dialogue, program.side_by_side, program.many_changes,
-                                  program.seldom_asleep, recorded_runs.reports,
+    "nothing on standard error": [program.dialogue, program.long_lists, program.side_by_side,
+                                  program.many_changes, program.seldom_asleep,
+                                  recorded_runs.reports,
                                   recorded_runs.limits_of_first_case, recorded_runs.long_texts,
                                   races.whole_file, races.set_orders, rules.attributes,
                                   rules.unknown_attributes, rules.values, rules.key_states,
                                   rules.mechanisms, rules.session_states, rules.pieces,
                                   rules.flags, rules.tries, rules.locks, rules.buffers,
-                                  rules.queries, rules.replies,
-                                  figures.scripts, figures.judges],
+                                  rules.queries, rules.replies, figures.scripts,
+                                  figures.judges],
 }
 
 # Tests of a file, to which it is all the same which program is there.
@@ -400,6 +411,14 @@ def wrong_programs(checks):
     checks.end("programs that are wrong in one thing")
 
 
+def wrong_programs_for_one(checks):
+    with tempfile.TemporaryDirectory() as folder:
+        for test, text in WRONG_FOR_ONE:
+            words = words_of(program, test, write_program(folder, text, program.PROGRAM))
+            checks.expect(fails(words), f"{test.__name__} of program.py on {text}: {words}")
+    checks.end("programs that are wrong where one test looks")
+
+
 def idle_programs(checks):
     for module in TESTS:
         with unseen():
@@ -631,6 +650,7 @@ def refused_edits(checks):
 def main():
     checks = program.Checks("noticing")
     wrong_programs(checks)
+    wrong_programs_for_one(checks)
     idle_programs(checks)
     slow_programs(checks)
     wrong_times(checks)
