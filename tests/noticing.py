@@ -17,6 +17,7 @@ import shutil
 import subprocess
 import sys
 import tempfile
+from unittest import mock
 
 import figures
 import program
@@ -239,8 +240,21 @@ CONTRACT_CHANGES = [
 # clause: behind `refused, as it must be`.
 REFUSALS = [
     (": note: src/locked.rt:{publish_board}:1: it is not proved that (`returns`)", True),
+    (": note: src/locked.rt:{publish_board}:1: (`returns-in-Some-clause-published`)", True),
+    (": note: src/locked.rt:{publish_board}:1: (`returns-in-Some-clause-publi", True),
     (": ./proofs/locked/publish_board/Answers.antt:1:1: error: `returns`", True),
+    (": ./proofs/locked/publish_board/Answers.antt:1:1: error: `a_lemma`", True),
+    (": ./proofs/locked/publish_board/Answers.antt:1:1: error: `loop-slot-preserved`", True),
     (": note: src/shared.rt:1:1: (`publish_board-requires-clause-published`)", True),
+    (": note: src/locked.rt:{publish_board}:1: (`returns-in-Some-clause-board`)", False),
+    (": note: src/locked.rt:{publish_board}:1: (`returns-in-Some-clause-boa", False),
+    (": note: src/locked.rt:{publish_board}:1: (`invariant_of-self`)", False),
+    (": note: src/locked.rt:{publish_board}:1: (`invariant_of-se", False),
+    (": note: src/locked.rt:{publish_board}:1: (`overflow_add-count`)", False),
+    (": note: src/locked.rt:{publish_board}:1: (`publish_slot-requires`)", False),
+    (": note: src/locked.rt:{publish_board}:1: (`publish_slot-requires-clause-published`)", False),
+    (": ./proofs/locked/publish_board/Answers.antt:1:1: error: `scope-returns`", False),
+    (": ./proofs/publish_board/add_slot/Answers.antt:1:1: error: `returns`", False),
     (": note: src/locked.rt:{add_slot}:1: it is not proved that (`returns`)", False),
     (": ./proofs/locked/add_slot/Answers.antt:1:1: error: `returns`", False),
     (": note: src/shared.rt:1:1: (`add_slot-requires-clause-published`)", False),
@@ -251,6 +265,26 @@ REFUSALS = [
     ("", False),
 ]
 REFUSED = ("ck_shared", "refused_call_leaves_slot_pending")
+
+# The same of other edits: of the invariant of the type Token; of a function without a clause's
+# name, `end_searches`; of the function `value_in` of a trait; and of one that is listed as refused
+# elsewhere, at `invariant_of-self`.
+OF_TOKEN = ("ck_token", "a_wrong_pin_behind_another_callers_try_is_not_counted")
+OF_SEARCHES = ("ck_sessions", "a_logout_leaves_the_search_of_the_first_session")
+OF_TRAIT = ("ck_script", "a_pin_is_its_text")
+OF_NEWS = ("ck_callers", "news_are_not_learnt")
+OTHER_REFUSALS = [
+    (OF_TOKEN, ": ./proofs/tokens/Token/cut/Answers.antt:1:1: error: `invariant_of-self`", True),
+    (OF_TOKEN, ": ./proofs/tokens/Token/cut/Answers.antt:1:1: error: `returns`", False),
+    (OF_TOKEN, ": ./proofs/x/Journal/cut/Answers.antt:1:1: error: `invariant_of-self`", False),
+    (OF_SEARCHES, ": ./proofs/rows/end_searches/Answers.antt:1:1: error: `returns-then-a`", True),
+    (OF_SEARCHES, ": ./proofs/rows/end_searches/Answers.antt:1:1: error: `cut-requires`", False),
+    (OF_TRAIT, ": ./proofs/arguments/Pin/value_in/Answers.antt:1:1: error: `returns`", True),
+    (OF_TRAIT, ": ./proofs/arguments/Other/value_in/Answers.antt:1:1: error: `returns`", False),
+    (OF_NEWS, ": ./proofs/callers/Caller/learn/Answers.antt:1:1: error: `invariant_of-self`", True),
+    (OF_NEWS, ": ./proofs/callers/Caller/learn/Answers.antt:1:1: error: `overflow_add`", False),
+    (OF_NEWS, " (only by a limit): note: src/callers.rt:1:1: (`invariant_of-self`)", False),
+]
 
 NO_MEMORY = b"ck_run: out of memory\n"
 
@@ -639,11 +673,15 @@ def refused_edits(checks):
     lines = {name: first for first, name in refusals.functions_of(path)}
     for said, is_right in REFUSALS:
         said = said.format(**lines)
-        checks.expect(refusals.is_at_clause(*REFUSED, said) == is_right, f"{REFUSED}: {said}")
+        checks.expect(refusals.is_refused(*REFUSED, said) == is_right, f"{REFUSED}: {said}")
+    for edit, said, is_right in OTHER_REFUSALS:
+        checks.expect(refusals.is_refused(*edit, said) == is_right, f"{edit}: {said}")
     output = "rt: must-fail {}/{}.edit: refused, as it must be".format(*REFUSED)
     faults = list(refusals.faults_in(output))
     checks.expect(len(faults) == len(glob.glob(os.path.join(ROOT, EDITS))),
                   f"of edits without a verdict: {faults}")
+    with mock.patch.dict(refusals.ELSEWHERE, {"ck_shared/no_edit": ("returns", "")}):
+        checks.expect(len(list(refusals.faults_in(output))) == len(faults) + 1, "a listed edit")
     checks.end("edits that aren't refused at their clauses")
 
 
