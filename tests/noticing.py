@@ -464,6 +464,7 @@ def idle_programs(checks):
 
 def slow_programs(checks):
     speed.FEW, speed.MANY, speed.SEARCHES = FEW_OBJECTS
+    speed.SEARCHES_OF_MANY = speed.SEARCHES
     speed.MOST_TRIES = speed.TRIES
     with tempfile.TemporaryDirectory() as folder:
         path = write_program(folder, SLOW, "/bin/true")

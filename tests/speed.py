@@ -17,9 +17,10 @@ FIRST_CALLS = ["1 InitToken 31323334", "1 OpenSession 6"]
 # How often scripts are played at least, and at most, before what takes too long is told.
 TRIES, MOST_TRIES = 3, 12
 
-# How many objects there are, in scripts that are compared, and how many searches among the few.
+# How many objects there are, in scripts that are compared, and how many searches among the few and
+# among the many.
 FEW, MANY = 20_000, 80_000
-SEARCHES = 2_000
+SEARCHES, SEARCHES_OF_MANY = 2_000, 500
 
 
 def seconds_of(tests, calls):
@@ -141,15 +142,16 @@ def is_faster_by_label(before, with_labels, with_others):
 
 def label_searches(tests):
     """A search by a label passes over most objects without reading them, also where the template
-    begins with another attribute, where the labels were given anew, and among keys."""
-    made = creations(FEW)
-    for first, attributes, other in ((made, "3", "10"), (made, "0=0000000000000000,3", "10"),
-                                     (made + changes(FEW), "3", "10"), (keys(FEW), "3", "102"),
-                                     (creations(MANY), "3", "10")):
-        scripts = (first, first + searches(SEARCHES, attributes), first + searches(SEARCHES, other))
+    begins with another attribute, where the labels were given anew, among keys, and among many."""
+    made, most = creations(FEW), creations(MANY)
+    for first, attributes, other, count in (
+            (made, "3", "10", SEARCHES), (made, "0=0000000000000000,3", "10", SEARCHES),
+            (made + changes(FEW), "3", "10", SEARCHES), (keys(FEW), "3", "102", SEARCHES),
+            (most, "3", "10", SEARCHES_OF_MANY)):
+        scripts = (first, first + searches(count, attributes), first + searches(count, other))
         times = least_seconds(tests, scripts, is_faster_by_label)
         tests.expect(is_faster_by_label(*times),
-                     f"{len(first)} calls took {times[0]:.3f} s, with {SEARCHES} searches by "
+                     f"{len(first)} calls took {times[0]:.3f} s, with {count} searches by "
                      f"{attributes} {times[1]:.3f} s, by {other} {times[2]:.3f} s")
     tests.end("searches by label")
 
