@@ -183,6 +183,25 @@ PAGES = [
     (rules.numbers_of_pages, "../README.md", "It has 34 calls", "It has 35 calls"),
 ]
 
+# Changes of sources in the folder crates with which such a page no longer agrees.
+SOURCES = [
+    (rules.flags, "ck_types/src/token_flags.rt", "SO_PIN_LOCKED = 0x4", "SO_PIN_LOCKED = 0x8"),
+    (rules.checks_of_calls, "ck_token/src/tokens/pin_calls.rt", r"_LOGGED_IN \(101\),$", "(101),"),
+    (rules.checks_of_calls, "ck_token/src/tokens/session_calls.rt", r"ARGUMENTS_BAD \(7\)\.$",
+     "ARGUMENTS_BAD (7), CKR_OPERATION_ACTIVE (90)."),
+    (rules.checks_of_calls, "ck_cases/data/*.cases", "^1 Verify .* -> 60$", "# none"),
+    (rules.codes, "ck_run/src/texts.rt", '"CKR_PIN_LOCKED"', '"CKR_PIN_EXPIRED"'),
+    (rules.names_of_mechanisms, "ck_types/src/mechanism_numbers.rt", "= 0x250;", "= 0x258;"),
+    (rules.names_of_arguments, "ck_journal/src/session_flags.rt", "SESSION: u64 = 2", "S: u64 = 2"),
+    (rules.names_of_arguments, "ck_objects/src/forms.rt", "SECRET: u64 = 16", "SECRET: u64 = 10"),
+    (rules.functions_of_programs, "ck_objects/src/*.rt", r"pub fn flag\(", "pub fn with_flag("),
+    (rules.laws, "ck_journal/specs/Laws.antt", "^abbrev pub LoginsNeedThePin", "abbrev L"),
+    (rules.laws, "ck_journal/src/laws.rt", r"^    ensures \{ SensitiveStays \}\n", ""),
+    (rules.races_of_threads, "ck_races/data/callers.races", "^1 OpenSession 6 -> 0 63\n", ""),
+    (rules.sketch_of_call, "ck_token/src/tokens.rt", r"^(    parts\.res.*\n)(    j.*\n)", r"\2\1"),
+    (rules.numbers_of_pages, "ck_shared/src/shared.rt", "LOOKS: u32 = 11", "LOOKS: u32 = 13"),
+]
+
 EDITS = "crates/*/must-fail/*.edit"
 
 # Changes of the repository that its list of checks must show: what is changed, the first file of
@@ -526,18 +545,27 @@ def say_of_checks(copy, *words):
     return run_script(copy, os.path.join("tests", "inventory.py"), *words)
 
 
+def check_noticed(checks, folder, changes):
+    """Each of these changes of a folder is noticed by its test, on a right program."""
+    for test, *change_of in changes:
+        path, text = change(folder, *change_of)
+        checks.expect(read(path) != text, f"{change_of} changes nothing")
+        words = words_of(rules, test, rules.PROGRAM)
+        checks.expect(fails(words), f"{test.__name__} on another {change_of}: {words}")
+        write(path, text)
+
+
 def changed_pages(checks):
-    docs = rules.DOCS
     with tempfile.TemporaryDirectory() as folder:
-        rules.DOCS = shutil.copytree(docs, os.path.join(folder, "docs"))
+        pages = shutil.copytree(rules.DOCS, os.path.join(folder, "docs"))
         shutil.copy(os.path.join(ROOT, "README.md"), folder)
-        for test, *change_of in PAGES:
-            path, text = change(rules.DOCS, *change_of)
-            words = words_of(rules, test, rules.PROGRAM)
-            checks.expect(fails(words), f"{test.__name__} on another {change_of}: {words}")
-            write(path, text)
-    rules.DOCS = docs
-    checks.end("changes of pages")
+        with mock.patch.object(rules, "DOCS", pages):
+            check_noticed(checks, pages, PAGES)
+        crates = shutil.copytree(rules.CRATES, os.path.join(folder, "crates"),
+                                 ignore=shutil.ignore_patterns("out", "must-fail", "proofs"))
+        with mock.patch.object(rules, "CRATES", crates):
+            check_noticed(checks, crates, SOURCES)
+    checks.end("changes of pages, and of sources with which they agree")
 
 
 def check_change(checks, copy, front, what, *change_of):

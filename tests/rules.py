@@ -866,17 +866,17 @@ def without_repeats(codes):
     return [code for code, _ in itertools.groupby(codes)]
 
 
-def codes_on_page(tests):
+def codes_on_page(checks):
     """The codes of each call, in the order of its checks. The first one of a call that names a
     session is said of all of them."""
     _, *parts = CALL.split(part_of("rules.md", "## The calls"))
     codes = {}
     for name, given, text in zip(parts[::3], parts[1::3], parts[2::3]):
         numbers = re.findall(r"^(\d+)\. ", text, re.MULTILINE)
-        tests.expect(numbers == [str(it + 1) for it in range(len(numbers))],
+        checks.expect(numbers == [str(it + 1) for it in range(len(numbers))],
                      f"{name}: the checks have the numbers {numbers}")
         first = ["b3"] if (given or "").split(", ")[0] == "session" else []
-        codes[name] = without_repeats(first + [*codes_in_rules(tests, text)])
+        codes[name] = without_repeats(first + [*codes_in_rules(checks, text)])
     return codes
 
 
@@ -958,10 +958,10 @@ def replies(tests):
     script.play(tests, "how replies are written")
 
 
-def order_of_faults(tests):
+def order_of_faults(checks):
     """The faults of a line in the order of the page, which names some by their table."""
     _, _, said = read(DOCS, "script.md").partition("one is named, the first in this order:\n\n")
-    table = rows(tests, "what is wrong | text")
+    table = rows(checks, "what is wrong | text")
     for item in re.findall(r"^\d\. (.*)[;.]$", said.partition("\n\n")[0], re.MULTILINE):
         yield from ([cells[0] for cells in table[1:5]] if "the table's next four" in item
                     else item.split(", "))
@@ -1051,12 +1051,13 @@ def names_of_mechanisms(tests):
 
 
 def number_of(value, known):
-    """The number of a constant's text: a number, a shift of one, or names joined by bars."""
+    """The number of a constant's text: a number, a shift of one, or names joined by bars. None
+    where it is another text."""
     names = value.split(" | ")
     if known.keys() >= {*names}:
         return sum(known[name] for name in names)
-    number, _, shift = value.replace("_", "").partition(" << ")
-    return int(number, 0) << int(shift or 0)
+    found = re.fullmatch(r"(0x[0-9a-f]+|[0-9]+)(?: << ([0-9]+))?", value.replace("_", ""))
+    return int(found[1], 0) << int(found[2] or 0) if found else None
 
 
 def constants_of(path):
