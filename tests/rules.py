@@ -963,8 +963,9 @@ def order_of_faults(checks):
     _, _, said = read(DOCS, "script.md").partition("one is named, the first in this order:\n\n")
     table = rows(checks, "what is wrong | text")
     for item in re.findall(r"^\d\. (.*)[;.]$", said.partition("\n\n")[0], re.MULTILINE):
-        yield from ([cells[0] for cells in table[1:5]] if "the table's next four" in item
-                    else item.split(", "))
+        next_rows = re.search(r"of the table's next (\w+) ", item)
+        count = number_in(next_rows[1]) if next_rows else None
+        yield from [cells[0] for cells in table[1:count + 1]] if count else item.split(", ")
 
 
 def faulty_line(faults):
