@@ -7,7 +7,8 @@ the prover must refuse, files of recorded calls and of races, files of programs,
 HANDLES, and the tests themselves. And it names the checks by their kinds, so that a reader sees
 which are gone: tests of the crates, of the scripts and of the module, crates, comparisons in
 constant time, types that can be shown, and the lines by which `check` and module/tests/run start
-them, with their loops and the packages that `check` installs.
+them, with their loops and the packages that `check` installs. Of each file of a crate it has how
+many clauses its functions have, private ones too, so that none is dropped unseen.
 
 With the word `check`, or none, this compares the list with what is there, and looks whether the
 edits fit the sources and the files are as they are named elsewhere; the status is 1 where something
@@ -69,6 +70,8 @@ WORDS = re.compile(r"(\w+)\+?=\(([a-z][^)]*)\)")
 # The name of a clause, and that of a ghost item of a block.
 LABEL = re.compile(r"(?:requires|ensures) (\w+) \{")
 GHOST = re.compile(r"    ghost (\w+)(?: =|:)")
+# How a clause begins, or a ghost item, wherever it stands.
+CLAUSE = re.compile(r"^\s*(requires|ensures|ghost)\b\*?(?: \w+)?(?: \{| =|:)", re.MULTILINE)
 
 # The crates whose checks are listed: programs that test or measure the others, and ck_run, which
 # has the tests of the libraries.
@@ -159,6 +162,17 @@ def shown_types():
     by_hand = [f"{path} {trait} for {' '.join(name.split())}" for path in sources()
                for trait, name in SHOWN_BY_HAND.findall(code_of(path))]
     return derived + by_hand
+
+
+def counts_of_clauses():
+    """How many clauses, and ghost items of types, each file has."""
+    counts = []
+    for path in sources():
+        found = collections.Counter(CLAUSE.findall(code_of(path)))
+        if found:
+            counts.append(f"{path} requires {found['requires']}, ensures {found['ensures']}, "
+                          f"ghost items {found['ghost']}")
+    return counts
 
 
 def texts_of_tests():
@@ -263,10 +277,11 @@ def words_of_check():
 def inventory():
     """All checks, as sorted lines."""
     kinds = {
-        "definition": with_digests(files("crates/*/specs/*.antt")),
+        "definition": with_digests(files("crates/*/specs/**/*.antt")),
         "edit that must fail": with_digests(edits()),
         "test of a crate": crate_tests(),
         "module of tests": test_modules(),
+        "clauses": counts_of_clauses(),
         "text of tests": with_digests(texts_of_tests()),
         "crate": crates(),
         "comparison in constant time": comparisons(),

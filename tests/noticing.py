@@ -17,6 +17,7 @@ import shutil
 import subprocess
 import sys
 import tempfile
+from unittest import mock
 
 import figures
 import program
@@ -40,6 +41,16 @@ WRONG = {
     "other arguments": 'right=$1; exec "$right" none',
 }
 
+# Scripts that run the right program, except where something is given that one test only gives: so
+# many callers, and a line that fills the longest one.
+NO_ROOM = '{ echo "ck_run: out of memory" >&2; exit 3; }'
+WRONG_FOR_ONE = [
+    *((program.callers, f'case "$*" in *--callers*{count}) exit 3;; esac; {RIGHT}')
+      for count in (5, 6, 7)),
+    (program.long_lists, 'right=$1; input=$(mktemp); trap \'rm "$input"\' EXIT; cat > "$input"; '
+     f'[ "$(wc -c < "$input")" -lt 4000000 ] || {NO_ROOM}; "$right" < "$input"'),
+]
+
 # The tests of each program, with the class that keeps what comes of them.
 TESTS = {program: program.Tests, rules: program.Tests, recorded_runs: recorded_runs.Files,
          races: recorded_runs.Files, figures: program.Tests}
@@ -53,19 +64,24 @@ FEW_OBJECTS = (10, 40, 40)
 SILENT = {
     "nothing on standard output": [program.readers, races.each_wrong_reply, races.wrong_in_parts,
                                    races.bad_lines, races.bad_files],
-    "nothing on standard error": [program.dialogue, program.side_by_side, program.many_changes,
-                                  program.seldom_asleep, recorded_runs.reports,
+    "nothing on standard error": [program.dialogue, program.long_lists, program.side_by_side,
+                                  program.many_changes, program.seldom_asleep,
+                                  recorded_runs.reports,
                                   recorded_runs.limits_of_first_case, recorded_runs.long_texts,
                                   races.whole_file, races.set_orders, rules.attributes,
                                   rules.unknown_attributes, rules.values, rules.key_states,
                                   rules.mechanisms, rules.session_states, rules.pieces,
-                                  figures.scripts, figures.judges],
+                                  rules.flags, rules.tries, rules.locks, rules.buffers,
+                                  rules.queries, rules.replies, figures.scripts,
+                                  figures.judges],
 }
 
 # Tests of a file, to which it is all the same which program is there.
-OTHERS = (races.shapes, rules.codes, rules.reasons, rules.statuses, rules.names_of_mechanisms,
-          figures.readings, figures.readings_of_module, figures.times_of_calls, figures.bounds,
-          figures.bounds_of_module, figures.sections)
+OTHERS = (races.shapes, rules.limits, rules.checks_of_calls, rules.codes, rules.reasons,
+          rules.statuses, rules.names_of_mechanisms, rules.names_of_arguments,
+          rules.functions_of_programs, rules.laws, rules.races_of_threads, rules.sketch_of_call,
+          rules.numbers_of_pages, figures.readings, figures.readings_of_module,
+          figures.times_of_calls, figures.bounds, figures.bounds_of_module, figures.sections)
 
 # What a program of figures says of few calls, of many and of an audit, and whether the times can be
 # those of the calls and of the audit.
@@ -94,8 +110,42 @@ PAGES = [
     (rules.key_states, "rules.md", r"^\| 4 \| destroyed \|", "| 6 | destroyed |"),
     (rules.mechanisms, "rules.md", r"^\| SHA-384 .*\n", ""),
     (rules.session_states, "rules.md", r"^(\| nobody .*\n)(\| the user .*\n)", r"\2\1"),
+    (rules.flags, "rules.md", r"^(\| CKF_SO_PIN_LOCKED \|) 400000 ", r"\1 800000 "),
+    (rules.flags, "rules.md", r"^(\| CKF_USER_PIN_FINAL_TRY .* has) 2 ", r"\1 1 "),
+    (rules.flags, "rules.md", r"^\| CKF_USER_PIN_LOCKED .*\n", ""),
+    (rules.tries, "rules.md", r"^\| C_InitPIN \| \|\n", "| C_InitPIN | C_InitPIN |\n"),
+    (rules.tries, "rules.md", r"^\| C_InitToken \| C_InitToken \|\n", ""),
+    (rules.tries, "rules.md", r"^\| C_Login of the user \|(.*)\|\n", r"| |\1|\n"),
+    (rules.locks, "rules.md", r"^- Three wrong tries", "- Five wrong tries"),
+    (rules.locks, "rules.md", r"^- Three wrong tries", "- Two wrong tries"),
+    (rules.limits, "rules.md", r"^(\| openings .* 1 to) 2\^32 ", r"\1 2^31 "),
+    (rules.limits, "rules.md", r"^(\| sessions open at once .*)CKR_SESSION_COUNT \(b1\)",
+     r"\1CKR_DEVICE_MEMORY (31)"),
+    (rules.limits, "rules.md", r"^\| logins of the user in all.*\n", ""),
+    (rules.queries, "rules.md", r"^(\| it is a hidden .*\n)(\| the object .*\n)", r"\2\1"),
+    (rules.queries, "rules.md", r"^(\| the buffer .* the value \|.*)150", r"\g<1>12"),
+    (rules.buffers, "rules.md", r"^(\| the buffer .* that length \|)[^|]*", r"\1 CKR_OK "),
+    (rules.buffers, "rules.md", r"^(\| no buffer .*) the length of ", r"\1 "),
+    (rules.queries, "rules.md", r"^(\| no buffer is given \|) the length of ", r"\1 "),
+    (rules.checks_of_calls, "rules.md", r"^3(\. That user .*\n)4(\. The new .*\n)", r"3\g<2>4\1"),
+    (rules.checks_of_calls, "rules.md", r"^3(\. That user .*\n)4(\. The new .*\n)", r"4\g<2>3\1"),
+    (rules.checks_of_calls, "rules.md", r"^2\. CKA_COPYABLE is .*\n", ""),
+    (rules.checks_of_calls, "rules.md", r"CKR_SESSION_EXISTS \(b6\)", "CKR_SESSION_EXISTS (b5)"),
+    (rules.checks_of_calls, "rules.md", r"^2(\. All.*\n.*\n)3(\. Cr.*\n.*\n.*\n)", r"2\g<2>3\1"),
     (rules.calls, "script.md", r"^\| `SetPIN` \| session, ", "| `SetPIN` | "),
     (rules.calls, "script.md", r"^\| `SetPIN` .*\n", ""),
+    (rules.arguments, "script.md", r"^\| caller \| `1` to `8` ", "| caller | `1` to `9` "),
+    (rules.arguments, "script.md", r"^\| flags .*no `0x`, ", "| flags | hexadecimal, "),
+    (rules.arguments, "script.md", r"^\| queries .*\n", ""),
+    (rules.replies, "script.md", r"^\| a session \| a space, the state in decimal",
+     "| a session | a space, the state in hexadecimal"),
+    (rules.replies, "script.md", r"^Hexadecimal is in lower ", "Hexadecimal is in upper "),
+    (rules.replies, "script.md", r"^\| mechanisms \|.*\n", ""),
+    (rules.faults_of_lines, "script.md", r"^2(\. the first .*\n)3(\. fewer .*\n)", r"2\g<2>3\1"),
+    (rules.faults_of_lines, "script.md", r"^3\. fewer than two words, the caller, ",
+     "3. the caller, fewer than two words, "),
+    (rules.faults_of_lines, "script.md", r"^(\| a tab .*\n)(\| a second space.*\n)", r"\2\1"),
+    (rules.faults_of_lines, "script.md", r"^5\. a caller above N.*\n", ""),
     (rules.codes, "script.md", r"^\| `b3` \| CKR_", "| `b4` | CKR_"),
     (rules.codes, "script.md", r"^\| `b3` \| CKR_.*\n", ""),
     (rules.reasons, "script.md", r"^\| a tab \| `there is ", "| a tab | `there isn't "),
@@ -104,6 +154,52 @@ PAGES = [
     (rules.statuses, "script.md", r"^\| 3 \| reading failed .*\n", ""),
     (rules.names_of_mechanisms, "rust.md", "250, 260, 270", "260, 250, 270"),
     (rules.names_of_mechanisms, "rules.md", "251 CKM_SHA256_HMAC ", "251 CKM_SHA384_HMAC "),
+    (rules.names_of_arguments, "rust.md", r"\| 4, 2, 6 \|", "| 2, 4, 6 |"),
+    (rules.names_of_arguments, "rust.md", "400, 800, 2000", "800, 400, 2000"),
+    (rules.names_of_arguments, "rust.md", "CKU_SO, CKU_USER", "CKU_USER, CKU_SO"),
+    (rules.names_of_arguments, "rust.md", r"CKK_GENERIC_SECRET \| 10 ", "CKK_GENERIC_SECRET | 16 "),
+    (rules.functions_of_programs, "rust.md", r"^\| `Template::secret_key\(", "| `Template::key("),
+    (rules.functions_of_programs, "rust.md", r"^(\| `Mechanism::new\(alloc), kind", r"\1"),
+    (rules.functions_of_programs, "rust.md", r"^(\| `\.class\(class\))\?", r"\1"),
+    (rules.functions_of_programs, "rust.md", r"`length`, `attributes`", "`lengths`, `attributes`"),
+    (rules.laws, "laws.md", r"`CopiesStaySensitive` \| A", "`CopiesStaySensitiv` | A"),
+    (rules.laws, "laws.md", r"^\| `TriesAreAtMostThree` .*\n", ""),
+    (rules.laws, "laws.md", r"^(\| `SensitiveStays`)(.*\n)(\| `Unex\w+`)(.*\n)",
+     r"\1\4\3\2"),
+    (rules.laws, "laws.md", r"^(\| `CutLaw` \| .*\n)", ""),
+    (rules.races_of_threads, "threads.md", "handles 63 and 64 once", "handles 62 and 63 once"),
+    (rules.races_of_threads, "threads.md", "three times CKR_PIN_INC", "four times CKR_PIN_INC"),
+    (rules.races_of_threads, "threads.md", r"^(\| one .* deactivates .*)FUNCTION_NOT_PERMITTED",
+     r"\1HANDLE_INVALID"),
+    (rules.races_of_threads, "threads.md", r"^\| four search on .*\n", ""),
+    (rules.sketch_of_call, "architecture.md", r"^(    parts[.]res.*\n)(    journal[.]res.*\n)",
+     r"\2\1"),
+    (rules.sketch_of_call, "architecture.md", r"^    body[.]clone.*\n", ""),
+    (rules.numbers_of_pages, "architecture.md", "looks for the lock 11 times",
+     "looks for the lock 12 times"),
+    (rules.numbers_of_pages, "architecture.md", "call that brings 4,096 bytes",
+     "call that brings 4,095 bytes"),
+    (rules.numbers_of_pages, "rules.md", r"is its number plus\n  2\^32", "is its number plus 2^31"),
+    (rules.numbers_of_pages, "../README.md", "It has 34 calls", "It has 35 calls"),
+]
+
+# Changes of sources in the folder crates with which such a page no longer agrees.
+SOURCES = [
+    (rules.flags, "ck_types/src/token_flags.rt", "SO_PIN_LOCKED = 0x4", "SO_PIN_LOCKED = 0x8"),
+    (rules.checks_of_calls, "ck_token/src/tokens/pin_calls.rt", r"_LOGGED_IN \(101\),$", "(101),"),
+    (rules.checks_of_calls, "ck_token/src/tokens/session_calls.rt", r"ARGUMENTS_BAD \(7\)\.$",
+     "ARGUMENTS_BAD (7), CKR_OPERATION_ACTIVE (90)."),
+    (rules.checks_of_calls, "ck_cases/data/*.cases", "^1 Verify .* -> 60$", "# none"),
+    (rules.codes, "ck_run/src/texts.rt", '"CKR_PIN_LOCKED"', '"CKR_PIN_EXPIRED"'),
+    (rules.names_of_mechanisms, "ck_types/src/mechanism_numbers.rt", "= 0x250;", "= 0x258;"),
+    (rules.names_of_arguments, "ck_journal/src/session_flags.rt", "SESSION: u64 = 2", "S: u64 = 2"),
+    (rules.names_of_arguments, "ck_objects/src/forms.rt", "SECRET: u64 = 16", "SECRET: u64 = 10"),
+    (rules.functions_of_programs, "ck_objects/src/*.rt", r"pub fn flag\(", "pub fn with_flag("),
+    (rules.laws, "ck_journal/specs/Laws.antt", "^abbrev pub LoginsNeedThePin", "abbrev L"),
+    (rules.laws, "ck_journal/src/laws.rt", r"^    ensures \{ SensitiveStays \}\n", ""),
+    (rules.races_of_threads, "ck_races/data/callers.races", "^1 OpenSession 6 -> 0 63\n", ""),
+    (rules.sketch_of_call, "ck_token/src/tokens.rt", r"^(    parts\.res.*\n)(    j.*\n)", r"\2\1"),
+    (rules.numbers_of_pages, "ck_shared/src/shared.rt", "LOOKS: u32 = 11", "LOOKS: u32 = 13"),
 ]
 
 EDITS = "crates/*/must-fail/*.edit"
@@ -115,6 +211,7 @@ CHANGES = [
     ("an edit that is another one", EDITS, "new: .*", "new: none"),
     ("another reply of a case", "crates/*/data/*.cases", " -> 0$", " -> 1"),
     ("another definition", "crates/*/specs/*.antt", "^pub record ", "pub  record "),
+    ("a clause that is gone", "crates/ck_store/src/labels.rt", "^ *ensures .*\n", ""),
     ("another reply of a race", "crates/*/data/*.races", " -> 0$", " -> 1"),
     ("another output", "crates/*/stdout", "1", "2"),
     ("a comparison that may end early", "crates/*/src/*.rt", "constant_time_eq\\(&", "same(&"),
@@ -162,8 +259,21 @@ CONTRACT_CHANGES = [
 # clause: behind `refused, as it must be`.
 REFUSALS = [
     (": note: src/locked.rt:{publish_board}:1: it is not proved that (`returns`)", True),
+    (": note: src/locked.rt:{publish_board}:1: (`returns-in-Some-clause-published`)", True),
+    (": note: src/locked.rt:{publish_board}:1: (`returns-in-Some-clause-publi", True),
     (": ./proofs/locked/publish_board/Answers.antt:1:1: error: `returns`", True),
+    (": ./proofs/locked/publish_board/Answers.antt:1:1: error: `a_lemma`", True),
+    (": ./proofs/locked/publish_board/Answers.antt:1:1: error: `loop-slot-preserved`", True),
     (": note: src/shared.rt:1:1: (`publish_board-requires-clause-published`)", True),
+    (": note: src/locked.rt:{publish_board}:1: (`returns-in-Some-clause-board`)", False),
+    (": note: src/locked.rt:{publish_board}:1: (`returns-in-Some-clause-boa", False),
+    (": note: src/locked.rt:{publish_board}:1: (`invariant_of-self`)", False),
+    (": note: src/locked.rt:{publish_board}:1: (`invariant_of-se", False),
+    (": note: src/locked.rt:{publish_board}:1: (`overflow_add-count`)", False),
+    (": note: src/locked.rt:{publish_board}:1: (`publish_slot-requires`)", False),
+    (": note: src/locked.rt:{publish_board}:1: (`publish_slot-requires-clause-published`)", False),
+    (": ./proofs/locked/publish_board/Answers.antt:1:1: error: `scope-returns`", False),
+    (": ./proofs/publish_board/add_slot/Answers.antt:1:1: error: `returns`", False),
     (": note: src/locked.rt:{add_slot}:1: it is not proved that (`returns`)", False),
     (": ./proofs/locked/add_slot/Answers.antt:1:1: error: `returns`", False),
     (": note: src/shared.rt:1:1: (`add_slot-requires-clause-published`)", False),
@@ -174,6 +284,26 @@ REFUSALS = [
     ("", False),
 ]
 REFUSED = ("ck_shared", "refused_call_leaves_slot_pending")
+
+# The same of other edits: of the invariant of the type Token; of a function without a clause's
+# name, `end_searches`; of the function `value_in` of a trait; and of one that is listed as refused
+# elsewhere, at `invariant_of-self`.
+OF_TOKEN = ("ck_token", "a_wrong_pin_behind_another_callers_try_is_not_counted")
+OF_SEARCHES = ("ck_sessions", "a_logout_leaves_the_search_of_the_first_session")
+OF_TRAIT = ("ck_script", "a_pin_is_its_text")
+OF_NEWS = ("ck_callers", "news_are_not_learnt")
+OTHER_REFUSALS = [
+    (OF_TOKEN, ": ./proofs/tokens/Token/cut/Answers.antt:1:1: error: `invariant_of-self`", True),
+    (OF_TOKEN, ": ./proofs/tokens/Token/cut/Answers.antt:1:1: error: `returns`", False),
+    (OF_TOKEN, ": ./proofs/x/Journal/cut/Answers.antt:1:1: error: `invariant_of-self`", False),
+    (OF_SEARCHES, ": ./proofs/rows/end_searches/Answers.antt:1:1: error: `returns-then-a`", True),
+    (OF_SEARCHES, ": ./proofs/rows/end_searches/Answers.antt:1:1: error: `cut-requires`", False),
+    (OF_TRAIT, ": ./proofs/arguments/Pin/value_in/Answers.antt:1:1: error: `returns`", True),
+    (OF_TRAIT, ": ./proofs/arguments/Other/value_in/Answers.antt:1:1: error: `returns`", False),
+    (OF_NEWS, ": ./proofs/callers/Caller/learn/Answers.antt:1:1: error: `invariant_of-self`", True),
+    (OF_NEWS, ": ./proofs/callers/Caller/learn/Answers.antt:1:1: error: `overflow_add`", False),
+    (OF_NEWS, " (only by a limit): note: src/callers.rt:1:1: (`invariant_of-self`)", False),
+]
 
 NO_MEMORY = b"ck_run: out of memory\n"
 
@@ -334,6 +464,14 @@ def wrong_programs(checks):
     checks.end("programs that are wrong in one thing")
 
 
+def wrong_programs_for_one(checks):
+    with tempfile.TemporaryDirectory() as folder:
+        for test, text in WRONG_FOR_ONE:
+            words = words_of(program, test, write_program(folder, text, program.PROGRAM))
+            checks.expect(fails(words), f"{test.__name__} of program.py on {text}: {words}")
+    checks.end("programs that are wrong where one test looks")
+
+
 def idle_programs(checks):
     for module in TESTS:
         with unseen():
@@ -345,6 +483,7 @@ def idle_programs(checks):
 
 def slow_programs(checks):
     speed.FEW, speed.MANY, speed.SEARCHES = FEW_OBJECTS
+    speed.SEARCHES_OF_MANY = speed.SEARCHES
     speed.MOST_TRIES = speed.TRIES
     with tempfile.TemporaryDirectory() as folder:
         path = write_program(folder, SLOW, "/bin/true")
@@ -406,17 +545,27 @@ def say_of_checks(copy, *words):
     return run_script(copy, os.path.join("tests", "inventory.py"), *words)
 
 
+def check_noticed(checks, folder, changes):
+    """Each of these changes of a folder is noticed by its test, on a right program."""
+    for test, *change_of in changes:
+        path, text = change(folder, *change_of)
+        checks.expect(read(path) != text, f"{change_of} changes nothing")
+        words = words_of(rules, test, rules.PROGRAM)
+        checks.expect(fails(words), f"{test.__name__} on another {change_of}: {words}")
+        write(path, text)
+
+
 def changed_pages(checks):
-    docs = rules.DOCS
     with tempfile.TemporaryDirectory() as folder:
-        rules.DOCS = shutil.copytree(docs, os.path.join(folder, "docs"))
-        for test, *change_of in PAGES:
-            path, text = change(rules.DOCS, *change_of)
-            words = words_of(rules, test, rules.PROGRAM)
-            checks.expect(fails(words), f"{test.__name__} on another {change_of}: {words}")
-            write(path, text)
-    rules.DOCS = docs
-    checks.end("changes of pages")
+        pages = shutil.copytree(rules.DOCS, os.path.join(folder, "docs"))
+        shutil.copy(os.path.join(ROOT, "README.md"), folder)
+        with mock.patch.object(rules, "DOCS", pages):
+            check_noticed(checks, pages, PAGES)
+        crates = shutil.copytree(rules.CRATES, os.path.join(folder, "crates"),
+                                 ignore=shutil.ignore_patterns("out", "must-fail", "proofs"))
+        with mock.patch.object(rules, "CRATES", crates):
+            check_noticed(checks, crates, SOURCES)
+    checks.end("changes of pages, and of sources with which they agree")
 
 
 def check_change(checks, copy, front, what, *change_of):
@@ -432,6 +581,17 @@ def check_change(checks, copy, front, what, *change_of):
     checks.expect(status == 1 and is_told, f"{what}: status {status}, {said}")
     write(path, text)
     write(listed, list_before)
+
+
+def check_moved_definition(checks, copy):
+    """A file of definitions that is moved into a folder is listed there."""
+    path = sorted(glob.glob(os.path.join(copy, "crates/*/specs/*.antt")))[0]
+    moved = os.path.join(os.path.dirname(path), "more", os.path.basename(path))
+    os.renames(path, moved)
+    _, said = say_of_checks(copy)
+    is_told = f"not listed: definition: {os.path.relpath(moved, copy)} " in said
+    checks.expect(is_told, f"definitions in a folder: {said}")
+    os.renames(moved, path)
 
 
 def check_contract_change(checks, copy, *change_of):
@@ -452,6 +612,7 @@ def changes(checks):
             check_change(checks, copy, ("gone or changed: ", "not listed: "), *what)
         for what in WRONG_CHANGES:
             check_change(checks, copy, "wrong: ", *what)
+        check_moved_definition(checks, copy)
         status, said = run_script(copy, CONTRACTS, "check")
         checks.expect(status == 0, f"the contracts of the copy: {said}")
         for what in CONTRACT_CHANGES:
@@ -541,17 +702,22 @@ def refused_edits(checks):
     lines = {name: first for first, name in refusals.functions_of(path)}
     for said, is_right in REFUSALS:
         said = said.format(**lines)
-        checks.expect(refusals.is_at_clause(*REFUSED, said) == is_right, f"{REFUSED}: {said}")
+        checks.expect(refusals.is_refused(*REFUSED, said) == is_right, f"{REFUSED}: {said}")
+    for edit, said, is_right in OTHER_REFUSALS:
+        checks.expect(refusals.is_refused(*edit, said) == is_right, f"{edit}: {said}")
     output = "rt: must-fail {}/{}.edit: refused, as it must be".format(*REFUSED)
     faults = list(refusals.faults_in(output))
     checks.expect(len(faults) == len(glob.glob(os.path.join(ROOT, EDITS))),
                   f"of edits without a verdict: {faults}")
+    with mock.patch.dict(refusals.ELSEWHERE, {"ck_shared/no_edit": ("returns", "")}):
+        checks.expect(len(list(refusals.faults_in(output))) == len(faults) + 1, "a listed edit")
     checks.end("edits that aren't refused at their clauses")
 
 
 def main():
     checks = program.Checks("noticing")
     wrong_programs(checks)
+    wrong_programs_for_one(checks)
     idle_programs(checks)
     slow_programs(checks)
     wrong_times(checks)

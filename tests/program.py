@@ -52,6 +52,9 @@ MANY = 1_000_000
 MANY_CALLS = b"1 GetTokenInfo\n" * MANY
 REPLY_TO_EACH = b"0 4 64 0 0\n"
 
+# So many items and queries of four bytes fill most of the longest line.
+MANY_ITEMS = 1_000_000
+
 # Short calls of callers in threads, and how many times they may sleep together.
 MANY_SHORT = 400_000
 MOST_SLEEPS = 20_000
@@ -109,23 +112,30 @@ CARRIAGE_RETURN = b"a carriage return stands at the end of the line"
 TAB = b"there is a tab in the line: single spaces separate its words"
 NOT_DECIMAL = b"a number is written in decimal digits"
 NO_CODE_NUMBER = b"a code number is written in the digits 0 to 9 and a to f, without 0x"
+LEADING_ZERO = b"a number has no leading zero"
+TOO_LARGE = b"a number is below 2^64"
+NO_BYTES = b"bytes are written in two hexadecimal digits each, and no bytes as -"
+NO_MECHANISM = b"a mechanism is written as type, or with its parameter as type:bytes"
 NO_TEMPLATE = b"a template is written as type=bytes,.. and an empty one as -"
+NO_QUERIES = b"queries are written as type:room,.. and none as -"
+FEW_WORDS = b"a line is a caller, a call and its arguments"
+NO_CALLER = b"the caller is a number from 1 to 8"
+LOGIN_TAKES_3 = b"Login takes 3 arguments"
 NO_CALL = b"no call has this name"
 
 # A bad line, and the reason that is given.
 BAD_LINES = [
-    (b"Nope", b"a line is a caller, a call and its arguments"),
-    (b"0 Logout 1", b"the caller is a number from 1 to 8"),
-    (b"9 Logout 1", b"the caller is a number from 1 to 8"),
+    (b"Nope", FEW_WORDS),
+    (b"0 Logout 1", NO_CALLER),
+    (b"9 Logout 1", NO_CALLER),
     (b"1 Nope", NO_CALL),
     (b"1 Logn 1 1 31", NO_CALL + b", the nearest is Login"),
-    (b"1 Login 1 1", b"Login takes 3 arguments"),
+    (b"1 Login 1 1", LOGIN_TAKES_3),
     (b"1 Logout x", NOT_DECIMAL),
-    (b"1 Logout 01", b"a number has no leading zero"),
-    (b"1 Logout 18446744073709551616", b"a number is below 2^64"),
+    (b"1 Logout 01", LEADING_ZERO),
+    (b"1 Logout 18446744073709551616", TOO_LARGE),
     (b"1 OpenSession 0x6", NO_CODE_NUMBER),
-    (b"1 InitToken 313",
-     b"bytes are written in two hexadecimal digits each, and no bytes as -"),
+    (b"1 InitToken 313", NO_BYTES),
     (b"1 Logout  1", TOO_MANY_SPACES),
     (b" # x", TOO_MANY_SPACES),
     (b"1 Logout 1\r", CARRIAGE_RETURN),
@@ -133,12 +143,11 @@ BAD_LINES = [
     (b"1 Logout\t1", TAB),
     (b"1 Logout 1\r2", NOT_DECIMAL),
     (b"1 Logout \xef\xbb\xbf1", NOT_DECIMAL),
-    (b"\xef\xbb1 Logout 1", b"the caller is a number from 1 to 8"),
+    (b"\xef\xbb1 Logout 1", NO_CALLER),
     (b"\xef\xbb\xbf1 Logout 1", BYTE_ORDER_MARK),
-    (b"1 DigestInit 1 250:00:00",
-     b"a mechanism is written as type, or with its parameter as type:bytes"),
+    (b"1 DigestInit 1 250:00:00", NO_MECHANISM),
     (b"1 CreateObject 1 3", NO_TEMPLATE),
-    (b"1 GetAttributeValue 1 1 3", b"queries are written as type:room,.. and none as -"),
+    (b"1 GetAttributeValue 1 1 3", NO_QUERIES),
 ]
 
 # A line with several faults, and the one that is named: the first in the order of docs/script.md.
@@ -154,14 +163,14 @@ LINES_WITH_FAULTS = [
     (b"9\tNope", TAB),
     (b"9  Logout 1", TOO_MANY_SPACES),
     (b"Nope ", TOO_MANY_SPACES),
-    (b"9", b"a line is a caller, a call and its arguments"),
-    (b"9 Nope", b"the caller is a number from 1 to 8"),
+    (b"9", FEW_WORDS),
+    (b"9 Nope", NO_CALLER),
     (b"1 Nope x 01", NO_CALL),
-    (b"1 Login x 1", b"Login takes 3 arguments"),
+    (b"1 Login x 1", LOGIN_TAKES_3),
     # the first bad argument of two, of three and of four
     (b"1 SessionCancel x 0x400", NOT_DECIMAL),
     (b"1 Login x 01 3", NOT_DECIMAL),
-    (b"1 Login 1 01 3", b"a number has no leading zero"),
+    (b"1 Login 1 01 3", LEADING_ZERO),
     (b"1 SignInit x 251 01", NOT_DECIMAL),
     (b"1 GenerateKey x 0x350 - 6", NOT_DECIMAL),
     (b"1 GenerateKey x 350 3 00", NOT_DECIMAL),
@@ -369,19 +378,35 @@ def longest_lines(tests):
     tests.end("lines of 4,194,304 bytes and of one more")
 
 
+def long_lists(tests):
+    """A line may have as many queries and items as it has room for, and a value as many bytes."""
+    start = b"1 InitToken 31323334\n1 OpenSession 6\n"
+    queries = b"1 GetAttributeValue 1 1 " + b"3:?," * MANY_ITEMS + b"3:?\n"
+    items = b"1 FindObjectsInit 1 " + b"3=-," * MANY_ITEMS + b"3=-\n"
+    tests.check([], start + queries + items, b"0\n0 1\n82\n0\n", *PLAYED)
+    front = b"1 CreateObject 1 0=0000000000000000,11="
+    value = b"61" * ((LONGEST_LINE - len(front)) // 2)
+    calls = front + value + b"\n1 GetAttributeValue 1 1 11:?,11:%d\n" % (len(value) // 2)
+    tests.check([], start + calls, b"0\n0 1\n0 1\n0 :%d,=%b\n" % (len(value) // 2, value), *PLAYED)
+    tests.end("lists and values that fill the longest line")
+
+
 def callers(tests):
     for words in (["--callers", "2"], ["--callers=2"], ["--callers", "8"]):
         tests.check(words, TWO_CALLERS, b"entries 8\naudit ok\n", *PLAYED)
     tests.check(["--callers", "1"], FIRST_CALLS, b"entries 6\naudit ok\n", *PLAYED)
     tests.check(["--callers", "1"], MANY_CALLS, b"entries %d\naudit ok\n" % MANY, *PLAYED)
-    tests.check(["--callers=3"], b"3 GetTokenInfo\n", b"entries 1\naudit ok\n", *PLAYED)
+    for count in range(1, 9):
+        line = b"%d GetTokenInfo\n" % count
+        tests.check(["--callers", str(count)], line, b"entries 1\naudit ok\n", *PLAYED)
+        tests.check([f"--callers={count}"], line * 2, b"entries 2\naudit ok\n", *PLAYED)
     tests.check(["--callers", "2"], b"", b"entries 0\naudit ok\n", *PLAYED)
     tests.check(["--callers", "2"], TWO_CALLERS + b"3 GetTokenInfo\n", b"",
                 *bad_script(9, CALLER_ABOVE_2))
     tests.check(["--callers", "5"], b"1 GetTokenInfo\n8 GetTokenInfo\n", b"",
                 *bad_script(2, b"the caller is a number from 1 to 5"))
     tests.check(["--callers", "2"], b"3 Login x\n", b"",
-                *bad_script(1, b"Login takes 3 arguments"))
+                *bad_script(1, LOGIN_TAKES_3))
     tests.end("callers in threads")
 
 
@@ -506,6 +531,7 @@ def main(program):
     bad_lines(tests)
     names(tests)
     longest_lines(tests)
+    long_lists(tests)
     callers(tests)
     audits(tests)
     many_changes(tests)

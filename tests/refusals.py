@@ -1,11 +1,15 @@
 #!/usr/bin/env python3
-"""Looks whether `rt ci` refused each edit that must fail at the function or the type that the line
-`clause:` of the edit names, and not for another reason.
+"""Looks whether `rt ci` refused each edit that must fail at the clause that the line `clause:` of
+the edit names, and not for another reason.
 
-Called with a file that has the output of `rt ci`. Where the clause is one that callers must show,
-the edit may be refused at a call, where that clause isn't shown and not another one. An edit of a
-definition is refused in a proof of the law that it names, or in a lemma of that proof, so the place
-doesn't count there. Prints each edit that has no such verdict; the status is 1 then.
+Called with a file that has the output of `rt ci`. The place is to be in the function that is named,
+or in its file of proofs, and the goal there may be of the clause: one that ends with the name of
+another clause isn't, nor one of what another function asks for, of a number or an index, or of the
+invariant of a type, except where the edit names the type. Where the clause is one that callers must
+show, the edit may be refused at a call, where that clause isn't shown and not another one. An edit
+of a definition is refused in a proof of the law that it names, or in a lemma of that proof, so the
+place doesn't count there. Edits that are refused elsewhere though they break their clauses are
+listed with reasons. Prints each edit that has no such verdict; the status is 1 then.
 """
 import functools
 import os
@@ -17,10 +21,69 @@ import contracts
 
 VERDICT = re.compile(r"rt: must-fail (\w+)/(\w+)\.edit: refused, as it must be(.*)")
 PLACE = re.compile(r"\b((?:src|specs|proofs)/[\w./+-]+):(\d+):\d+:")
-# The function or the type, and the clause of it if one is named.
-CLAUSE = re.compile(r"^clause: (?:\w+::)*(\w+)(?: (\w+))?$", re.MULTILINE)
+# The function or the type, with the type or the trait that it is of, and the clause of it if one is
+# named.
+CLAUSE = re.compile(r"^clause: (?:\w+::)*?(?:(\w+)::)?(\w+)(?: (\w+))?$", re.MULTILINE)
 # How `rt` begins where it refuses an edit for another reason than a goal.
 OTHER_REASONS = (" (only because a proof file", " (only by a limit")
+
+# The goal that a verdict names. Long verdicts are cut off, and so may the name be.
+GOAL = re.compile(r"(?:\(|error: )`([\w+-]+)(`?)")
+# A goal of what the call of a function asks for, and the name of the clause that a goal is of.
+ASKED = re.compile(r"(\w+)(?:-[\w-]+?)?-requires\b")
+NAMED = re.compile(r"-clause-(\w*)")
+# A goal that is of no clause: of the invariant of a type, of a number or an index in range, and of
+# the end of a closure.
+OF_NO_CLAUSE = re.compile(r"(?:invariant|overflow|nonzero|\w*bounds)|.+-returns\b")
+
+# Edits that are refused elsewhere, though each breaks its clause, too: the goal, and why it comes
+# first. Where it is the answer that no longer fits, the goal may be true.
+INVARIANT = "what is answered of the type's invariant doesn't fit, and that is looked at first"
+EARLIER = "the body breaks this clause as well, and it stands first"
+ELSEWHERE = {
+    "ck_callers/a_caller_does_not_see_its_own_reply": ("invariant_of-self", INVARIANT),
+    "ck_callers/a_caller_keeps_its_reply_before": ("invariant_of-self", INVARIANT),
+    "ck_callers/a_login_leaves_the_board": ("invariant_of-self", INVARIANT),
+    "ck_callers/added_at_another_length": ("invariant_of-self", INVARIANT),
+    "ck_callers/an_entry_counts_twice": (
+        "overflow_add-count", "two more than the count need not fit in its type"),
+    "ck_callers/news_are_not_learnt": ("invariant_of-self", INVARIANT),
+    "ck_callers/scripts_come_back_in_the_reverse_order": (
+        "scope-returns", "the closure in which the scripts are put together is looked at first"),
+    "ck_foreign/work_that_is_not_done_is_used": (
+        "call_after-requires", "the body breaks what it calls, and no clause of its own before"),
+    "ck_module/a_value_is_read_as_a_digest": ("returns-clause-length", EARLIER),
+    "ck_module/handles_are_read_as_mechanisms": ("returns-clause-count", EARLIER),
+    "ck_module/mechanisms_are_read_as_handles": ("returns-clause-count", EARLIER),
+    "ck_module/the_value_of_the_first_query_is_read": ("returns-clause-length", EARLIER),
+    "ck_plays/the_input_is_repeated": ("returns-in_err-extend_open_line-clause-err", EARLIER),
+    "ck_program/every_fault_ends_with_status_7": (
+        "returns-then-run-eq0-clause-end_found",
+        "a test of the status stands before the end, and the clause isn't found again behind it"),
+    "ck_script/a_line_may_have_one_byte_more": ("returns-then-is_empty-clause-line", EARLIER),
+    "ck_script/comments_begin_with_a_semicolon": ("returns-then-is_empty-clause-line", EARLIER),
+    "ck_shared/calls_are_those_of_the_first_caller": (
+        "extend-requires-clause-next", "the history is made longer by the entry before the end"),
+    "ck_shared/close_wants_no_caller_back": ("returns-then-are_all-clause-missing", EARLIER),
+    "ck_shared/every_call_answers_ok": ("returns-clause-called", EARLIER),
+    "ck_shared/outputs_come_in_the_reverse_order": (
+        "returns-in-Ok-done-clause-count", "what is answered of the count doesn't fit any more"),
+    "ck_shared/shared_token_is_not_put_back": (
+        "returns-in-Ok-clause-limits", "what is answered of the limits doesn't fit any more"),
+    "ck_store/objects_are_lost_where_memory_ends": (
+        "invariant_of-self", "it is wanted where the objects are cleared, before the end"),
+    "ck_store/setting_an_attribute_also_changes_another_object": ("invariant_of-self", INVARIANT),
+    "ck_store/setting_an_attribute_changes_another_object": (
+        "change_at-mark-requires", "the values need not pass the checks of another object"),
+    "ck_token/a_cut_starts_the_logins_over": (
+        "from_base-journal-requires", "the journal is made before the end, from a sound base"),
+    "ck_token/a_cut_starts_the_users_tries_over": (
+        "from_base-journal-requires", "the journal is made before the end, from a sound base"),
+    "ck_token/a_wrong_pin_behind_another_callers_try_is_not_counted": (
+        "apply-requires-clause-counted", "the change is carried out before the end"),
+    "ck_token/out_of_memory_after_the_entry": (
+        "invariant_of-self", "it is wanted at both ends then, and isn't found at the first one"),
+}
 
 
 def first_line_of(lines, function):
@@ -39,35 +102,74 @@ def functions_of(path):
             for function in contracts.functions_in(lines)]
 
 
-def names_at(crate, path, line):
-    """The names of the function whose goal stands there, and of its type. Functions that call
-    themselves, and those in them, have a folder of proofs that begins with a plus sign."""
+def functions_at(crate, path, line):
+    """The functions whose goals stand there, each behind its type or, in proofs, its module.
+    Functions that call themselves, and those in them, have a folder of proofs together, that begins
+    with a plus sign."""
     if not path.startswith("src/"):
-        return re.split(r"[/+]", path)
+        *_, owner, folder, _ = ["", *path.split("/")]
+        return [(owner, name) for name in folder.removeprefix("+").split("+")]
     source = os.path.join(inventory.ROOT, "crates", crate, path)
     names = [name for first, name in functions_of(source) if first <= line]
-    return names[-1].split("::") if names else []
+    return [tuple(["", *names[-1].split("::")][-2:])] if names else []
+
+
+def is_in(crate, owner, name, places):
+    """Whether one of these functions is the one of this name, of this type or trait if one is
+    given."""
+    traits = {it.name: it.of_trait for it in inventory.clauses_of(crate)}
+    return any(name == at and (owner in (None, of) or traits.get(f"{of}::{at}") == f"{owner}::{at}")
+               for of, at in places)
+
+
+def may_be_of(goal, name, label):
+    """Whether a goal may be of a function's clause of this name, or of any where none is named."""
+    asked, named = ASKED.match(goal[1]), NAMED.search(goal[1])
+    if asked and asked[1] != name:
+        return False
+    if label and named:
+        return label == named[1] or not goal[2] and label.startswith(named[1])
+    return not (OF_NO_CLAUSE.match(goal[1]) or label and asked)
 
 
 def is_at_clause(crate, edit, said):
     """Whether this is said of a goal of the edit's clause."""
     text = inventory.text_of(f"crates/{crate}/must-fail/{edit}.edit")
-    (name, label), place = CLAUSE.search(text).groups(), PLACE.search(said)
+    place, goal = PLACE.search(said), GOAL.search(said)
     if said.startswith(OTHER_REASONS) or not place:
         return False
-    shown_at_call = f"`{name}-requires-clause-{label}`" if label else f"`{name}-requires"
-    return ("file: specs/" in text or shown_at_call in said
-            or name in names_at(crate, place[1], int(place[2])))
+    if "file: specs/" in text:
+        return True
+    owner, name, label = CLAUSE.search(text).groups()
+    places = functions_at(crate, place[1], int(place[2]))
+    if name[0].isupper():
+        return name in [of for of, _ in places] and bool(goal) and goal[1].startswith("invariant")
+    if goal and ASKED.match(goal[1]):
+        return may_be_of(goal, name, label)
+    return is_in(crate, owner, name, places) and (not goal or may_be_of(goal, name, label))
+
+
+def is_refused(crate, edit, said):
+    """Whether this is said of a goal of the edit's clause, or of the goal at which it is listed."""
+    goal = GOAL.search(said)
+    listed, _ = ELSEWHERE.get(f"{crate}/{edit}", ("", ""))
+    is_listed = goal and not said.startswith(OTHER_REASONS) and (
+        listed == goal[1] or not goal[2] and listed.startswith(goal[1]))
+    return bool(is_listed) or is_at_clause(crate, edit, said)
 
 
 def faults_in(output):
     verdicts = {(found[1], found[2]): found[3] for found in VERDICT.finditer(output)}
-    for path in inventory.files("crates/*/must-fail/*.edit"):
-        edit = path.split("/")[1], os.path.basename(path).removesuffix(".edit")
-        if edit not in verdicts:
-            yield f"{path} has no verdict"
-        elif not is_at_clause(*edit, verdicts[edit]):
-            yield f"{path} isn't refused at its clause: {verdicts[edit]}"
+    there = [(path.split("/")[1], os.path.basename(path).removesuffix(".edit"))
+             for path in inventory.files("crates/*/must-fail/*.edit")]
+    for crate, edit in there:
+        said = verdicts.get((crate, edit))
+        if said is None:
+            yield f"{crate}/{edit} has no verdict"
+        elif not is_refused(crate, edit, said):
+            yield f"{crate}/{edit} isn't refused at its clause: {said}"
+    for name in sorted(ELSEWHERE.keys() - {"/".join(edit) for edit in there}):
+        yield f"{name} is listed, and isn't there"
 
 
 def main(path):

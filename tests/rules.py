@@ -1,25 +1,35 @@
 #!/usr/bin/env python3
 """Plays the tables of docs/rules.md on the built program ck_run: which templates an attribute may
 stand in, its forms, and its value where no template gives it; which key state may become which, and
-what a key does in it; mechanisms, the states of sessions, and the longest pieces of messages. Of
-docs/script.md it plays how many arguments each call takes.
+what a key does in it; mechanisms, the states of sessions, and the longest pieces of messages; which
+calls count wrong tries back, the token's flags, limits, and answers to queries. Of docs/script.md
+it plays how many arguments each call takes, how arguments and replies are written, and which of
+several faults of a line is named.
 
 The replies that are wanted are read off the pages. So that no row is passed over, each table must
 have as many rows as are said here, and attributes and states that it doesn't have must be refused.
-Last, return codes, reasons of bad lines, statuses and names of mechanisms on the pages are compared
-with those that the sources and other tests have. The program is crates/ck_run/out/ck_run, which
-`rt ci` leaves, or the one that is named. For each test a line is printed that begins with passed or
-FAILED, and the status is 1 where one failed.
+Last, what pages say is compared with what the sources and other tests have: the checks of each
+call, return codes, reasons of bad lines, statuses, names and functions for programs, names of laws,
+races, and numbers. The program is crates/ck_run/out/ck_run, which `rt ci` leaves, or the one that
+is named. For each test a line is printed that begins with passed or FAILED, and the status is 1
+where one failed.
 """
+import glob
+import hashlib
+import itertools
 import os
 import re
 import sys
+import tempfile
 
 import program
+import recorded_runs
 
 PROGRAM = program.PROGRAM
 DOCS = os.path.join(program.HERE, "..", "docs")
 CRATES = os.path.join(program.HERE, "..", "crates")
+sys.path.insert(0, DOCS)
+import contracts
 
 # The tables that are read, by the first cells of their heads: the page of each, and its rows.
 TABLES = {
@@ -27,11 +37,20 @@ TABLES = {
     "number | state": ("rules.md", 6),
     "hash function (FIPS 180-4)": ("rules.md", 4),
     "login | read-only session": ("rules.md", 3),
+    "the user | the security officer": ("rules.md", 4),
+    "flag | number (hexadecimal)": ("rules.md", 9),
+    "limit | range": ("rules.md", 4),
+    "| code | reply": ("rules.md", 3),
+    "| answer | fault": ("rules.md", 5),
+    "argument | text": ("script.md", 11),
+    "what comes with the code | text after the code": ("script.md", 9),
     "call | arguments": ("script.md", 34),
     "code | name": ("script.md", 38),
     "status | when": ("script.md", 8),
     "what is wrong | text": ("script.md", 18),
     "name | the standard's": ("rust.md", 10),
+    "function | makes": ("rust.md", 10),
+    "what callers do at once | what comes": ("threads.md", 11),
 }
 
 # A token that is initialized, with the user logged in in session 1. Private objects then have
@@ -78,6 +97,285 @@ UNTRIED = (3, "ck_run: reader does not end")
 CODE = re.compile(r'\(0x([0-9a-f]+), "(CKR_\w+)"\)')
 MECHANISM = re.compile(r"pub const (\w+): u64 = 0x([0-9a-f]+);")
 QUOTED = re.compile("`([^`]*)`")
+
+# How the rules of a call begin, with what it is given; and what stands for its checks in them.
+CALL = re.compile(r"^\*\*(\w+)\*\*(?:\(([^)]*)\))?", re.MULTILINE)
+CHECK = re.compile(r"(?P<name>CKR_\w+) \((?P<code>[0-9a-f]+)[,;)]"
+                   r"|The checks of a template that (?P<purpose>\w+)"
+                   r"|(?P<buffer>the reply is by the buffer)"
+                   r"|(?P<queries>the queries are answered)")
+# A code with its number; and also a number by itself.
+CODED = re.compile(r"(CKR_\w+) \(([0-9a-f]+)\)")
+CODED_AGAIN = re.compile(r"(CKR_\w+) \(([0-9a-f]+)\)|\b[0-9a-f]{2,3}\b")
+CODE_NAME = re.compile(r"CKR_\w+")
+# How the checks of templates begin, and which of them are made of one that does this.
+FRONT = re.compile(r"\b(All|Created, a secret key|Created|Generated|Copied and changed|Copied): ")
+TEMPLATES = {
+    "creates": ("All", "Created", "Created, a secret key"),
+    "generates": ("All", "Generated"),
+    "copies": ("All", "Copied", "Copied and changed"),
+    "sets": ("All", "Copied and changed"),
+}
+# The comment of a function that decides a call, a call of the standard, and a call that no function
+# decides, since it is never refused.
+DECISION = re.compile(r"((?: *///.*\n)+) *pub\(super\) fn (\w+)")
+OF_CALL = re.compile(r"\bC_(\w+)")
+UNDECIDED = "CloseAllSessions"
+# A call of a case, with the code of its reply.
+RECORDED = re.compile(r"^\d+ (\w+)(?: .*)? -> (?!bad )([0-9a-f]+)(?= |$)", re.MULTILINE)
+
+# The rows of the table of arguments: what each says, lines with such an argument, texts that are
+# read, and texts that aren't, with the reasons.
+NUMBERS = (["0", "7", "10", str(2 ** 64 - 1)],
+           {"x": program.NOT_DECIMAL, "a": program.NOT_DECIMAL, "0x6": program.NOT_DECIMAL,
+            "-": program.NOT_DECIMAL, "07": program.LEADING_ZERO, "00": program.LEADING_ZERO,
+            str(2 ** 64): program.TOO_LARGE})
+CODE_NUMBERS = (["0", "9", "9af", "f" * 16],
+                {"A": program.NO_CODE_NUMBER, "g": program.NO_CODE_NUMBER,
+                 "0x6": program.NO_CODE_NUMBER, "-": program.NO_CODE_NUMBER,
+                 "06": program.LEADING_ZERO, "1" + "0" * 16: program.TOO_LARGE})
+BYTES = (["00", "aA", "Ff09", "-"], {"0": program.NO_BYTES, "0g": program.NO_BYTES,
+                                     "0x00": program.NO_BYTES, "--": program.NO_BYTES})
+
+
+def with_types(end, others, reasons):
+    """Texts that begin with a type and end so, and others."""
+    good, bad = CODE_NUMBERS
+    return ([it + end for it in good] + others,
+            {**{it + end: reason for it, reason in bad.items() if it != "-" or end}, **reasons})
+
+
+ARGUMENTS = {
+    "caller": ("`1` to `8`", ["{} GetTokenInfo"], list("12345678"),
+               {it: program.NO_CALLER for it in ("0", "9", "x", "01", "10")}),
+    "session, object, key": (
+        "a handle: decimal, no leading zeros, below 2^64",
+        ["1 Logout {}", "1 DestroyObject 1 {}", "1 SignInit 1 251 {}"], *NUMBERS),
+    "user": ("a number like a handle: 0 the security officer, 1 the normal user; the call refuses "
+             "others", ["1 Login 1 {} 31"], *NUMBERS),
+    "max": ("a number like a handle: the most handles that the reply may have",
+            ["1 FindObjects 1 {}"], *NUMBERS),
+    "state": ("a number like a handle: the state that the key goes to; the call refuses numbers of "
+              "no state", ["1 SetKeyState 1 1 {}"], *NUMBERS),
+    "room": ("a number like a handle: the length of the output buffer; or `?`, no buffer, which "
+             "asks only for the length",
+             ["1 Digest 1 - {}", "1 DigestFinal 1 {}", "1 Sign 1 - {}", "1 SignFinal 1 {}"],
+             [*NUMBERS[0], "?"], {**NUMBERS[1], "??": program.NOT_DECIMAL}),
+    "flags": ("hexadecimal with digits `0` to `9` and `a` to `f`, no `0x`, no leading zeros, below "
+              "2^64", ["1 OpenSession {}", "1 SessionCancel 1 {}"], *CODE_NUMBERS),
+    "pin, signature, all bytes": (
+        "two hexadecimal digits of either case for each; `-` for no bytes",
+        ["1 InitToken {}", "1 InitPIN 1 {}", "1 SetPIN 1 {} 31", "1 SetPIN 1 31 {}",
+         "1 Login 1 1 {}", "1 Digest 1 {} ?", "1 DigestUpdate 1 {}", "1 Sign 1 {} ?",
+         "1 SignUpdate 1 {}", "1 Verify 1 {} 31", "1 Verify 1 31 {}", "1 VerifyUpdate 1 {}",
+         "1 VerifyFinal 1 {}", "1 GenerateKey 1 350 - {}"], *BYTES),
+    "mechanism": (
+        "`type`, or `type:bytes` with a parameter; a type is written as flags are",
+        ["1 DigestInit 1 {}", "1 SignInit 1 {} 1", "1 VerifyInit 1 {} 1",
+         "1 GenerateKey 1 {} - 00"],
+        *with_types("", ["250:00", "250:-"],
+                    {"-": program.NO_CODE_NUMBER, "250:0": program.NO_BYTES,
+                     "250:00:00": program.NO_MECHANISM, "0x250:00": program.NO_CODE_NUMBER})),
+    "template": (
+        "items `type=bytes` joined by commas, or `-` for none; a type is written as flags are",
+        ["1 CreateObject 1 {}", "1 GenerateKey 1 350 {} 00", "1 CopyObject 1 1 {}",
+         "1 SetAttributeValue 1 1 {}", "1 FindObjectsInit 1 {}"],
+        *with_types("=00", ["-", "3=6162,10=-", "0=00,1=01,3=-"],
+                    {**dict.fromkeys(["3", "3=00,", "3=00,-"], program.NO_TEMPLATE),
+                     "3=0": program.NO_BYTES})),
+    "queries": (
+        "queries `type:room` joined by commas, or `-` for none", ["1 GetAttributeValue 1 1 {}"],
+        *with_types(":8", ["-", "3:?", "3:8,11:?", "3:0,10:1,11:?"],
+                    {**dict.fromkeys(["3", "3:8,", "3:8,-"], program.NO_QUERIES),
+                     "3:x": program.NOT_DECIMAL, "3:08": program.LEADING_ZERO})),
+}
+
+# The rows of the table of replies: what each says, and calls with their replies, which are made one
+# after the other for all rows.
+REPLIES = {
+    "nothing": ("nothing", {"1 InitToken 31323334": "0"}),
+    "a handle": ("a space and the handle in decimal", {
+        "1 OpenSession 6": "0 1", "1 Login 1 0 31323334": "0", "1 InitPIN 1 75736572": "0",
+        "1 Logout 1": "0", "1 Login 1 1 75736572": "0",
+        "1 CreateObject 1 0=0000000000000000,3=6162": "0 1",
+        "1 CreateObject 1 0=0000000000000000,2=01": "0 4294967298"}),
+    "a session": ("a space, the state in decimal, a space, the flags in hexadecimal",
+                  {"1 GetSessionInfo 1": "0 3 6"}),
+    "the token": ("the token's flags in hexadecimal, then three counts in decimal, each after a "
+                  "space", {"1 GetTokenInfo": "0 40c 64 1 1"}),
+    "answers to queries": (
+        "a space and the answers joined by commas, or `-` where there are none",
+        {"1 GetAttributeValue 1 1 3:8,11:?,3:?,11:8": "0 =6162,:0,:2,=-",
+         "1 GetAttributeValue 1 1 -": "0 -", "1 GetAttributeValue 1 1 100:8": "12 !"}),
+    "handles": (
+        "a space and the handles in decimal joined by commas, or `-` where there are none",
+        {"1 FindObjectsInit 1 -": "0", "1 FindObjects 1 9": "0 1,4294967298",
+         "1 FindObjects 1 10": "0 -"}),
+    "mechanisms": ("a space and their types in hexadecimal joined by commas", {
+        "1 GetMechanismList": "0 250,251,252,255,256,257,260,261,262,270,271,272,350"}),
+    "a digest or a signature": ("a space and its bytes in hexadecimal", {
+        "1 DigestInit 1 250": "0", "1 Digest 1 61 32": "0 " + hashlib.sha256(b"a").hexdigest()}),
+    "the length of a digest or a signature": ("a space, `:` and the length in decimal", {
+        "1 DigestInit 1 270": "0", "1 Digest 1 61 ?": "0 :64", "1 DigestFinal 1 63": "150 :64"}),
+}
+LETTERS = "Hexadecimal is in lower case, without leading zeros in codes and flags."
+
+# The faults of a line: the reason that is given, and what is then another part of the line.
+FAULTS = {
+    "its length": (program.TOO_LONG, {"more": b"1" * program.LONGEST_LINE}),
+    "a byte order mark at its beginning": (program.BYTE_ORDER_MARK, {"front": b"\xef\xbb\xbf"}),
+    "a carriage return at its end": (program.CARRIAGE_RETURN, {"end": b"\r"}),
+    "a tab": (program.TAB, {"gap": b"\t"}),
+    "a second space, or one at an end": (program.TOO_MANY_SPACES, {"between": b"  "}),
+    "fewer than two words": (program.FEW_WORDS, {"name": b"", "first": b"", "rest": b""}),
+    "the caller": (program.NO_CALLER, {"caller": b"9"}),
+    "the call's name": (program.NO_CALL, {"name": b"Nope"}),
+    "the count of its arguments": (program.LOGIN_TAKES_3, {"rest": b" 1"}),
+    "the first bad argument": (program.NOT_DECIMAL, {"first": b"x"}),
+    "a caller above N": (program.CALLER_ABOVE_2, {"caller": b"3"}),
+}
+
+# Where the numbers of names stand that programs give to calls, those first of which others are
+# made; a constant, and a variant with its number; and the standard's numbers.
+NAMED = ["ck_types/src/users.rt", "ck_journal/src/session_flags.rt",
+         "ck_journal/src/operations.rt", "ck_objects/src/forms.rt", "ck_objects/src/attributes.rt"]
+CONSTANT = re.compile(r"^(?:pub(?:\(\w+\))? )?const (\w+): \w+ = ([\w <|]+);", re.MULTILINE)
+VARIANT = re.compile(r"^ +(?:\w+::)?(\w+) =>? (0x[0-9a-f]+|\d+|[A-Z_]{2,}),$", re.MULTILINE)
+STANDARD = {"CKU_SO": 0, "CKU_USER": 1, "CKF_SERIAL_SESSION": 4, "CKF_RW_SESSION": 2,
+            "CKF_DIGEST": 0x400, "CKF_SIGN": 0x800, "CKF_VERIFY": 0x2000, "CKO_DATA": 0,
+            "CKO_SECRET_KEY": 4, "CKK_GENERIC_SECRET": 0x10, "both": 6}
+
+# A function as the page of programs shows it, and the front of one's contract.
+SHOWN = re.compile(r"(?:(?P<owner>\w+)::|\.)?(?P<name>\w+)(?:\((?P<given>.*)\)(?P<asks>\?)?)?")
+HEAD = re.compile(r".*?fn \w+(?:<[^(]*>)?\((.*?)\)(?: -> (.*))?")
+
+# A law on the page, with its words; a statement in the specs; and a function that proves one, with
+# its comment. And where the page speaks of the laws of cuts.
+LAW = re.compile(r"^\| `(\w+)` \| (.*) \|$", re.MULTILINE)
+STATEMENT = re.compile(r"^abbrev pub (\w+) : Type 0$", re.MULTILINE)
+FILES_OF_LAWS = ("Laws.antt", "KeyLaws.antt", "LawsOverEvents.antt", "Cuts.antt")
+PROVED = re.compile(r"((?:///.*\n)+)pub fn \w+\(\)\n *ensures \{ (\w+) \}")
+CUT_TITLE = "## Why a cut changes nothing"
+
+# How the race begins that shows a row of the table of races. The last row is shown by asks.rt.
+RACES = {
+    "one signs in pieces, another destroys the key":
+        "A key is destroyed before the last piece of a signature",
+    "one signs in pieces, another logs out": "A logout ends the operations of all sessions.",
+    "one signs in pieces, another deactivates the key":
+        "A key that was deactivated does not sign",
+    "one verifies in pieces, another deactivates the key":
+        "A key that was deactivated still verifies.",
+    "one signs a long message, another cancels it and starts again":
+        "C_SessionCancel ends the signature of a long message",
+    "one signs a long message, another closes the session":
+        "The session is closed while a long message is signed",
+    "two add pieces to one digest or one signature":
+        "Two callers in one session: a signature in pieces",
+    "four search on in one search":
+        "Four callers in one session: each handle of a search goes to one of them.",
+    "eight log in with a wrong PIN": "Three tries of a PIN, whoever makes them, lock it.",
+    "eight open sessions where two more may be open":
+        "At most 64 sessions, whoever opens them.",
+}
+ASKING = "one logs in, another asks without the lock"
+REPLY = re.compile(r"^(\d+) .* -> (.*)$", re.MULTILINE)
+
+# Numbers on pages that are constants: the page, the words with the number, and where the constant
+# stands.
+NUMBERS_ON_PAGES = [
+    ("../README.md", r"also from up to (\w+) threads", "ck_journal/src/calls.rt", "MOST_CALLERS"),
+    ("threads.md", r"numbered from 1, at most (\w+)\.", "ck_journal/src/calls.rt", "MOST_CALLERS"),
+    ("threads.md", r"A call with (\S+) bytes of a message or more", "ck_journal/src/calls.rt",
+     "LONG_MESSAGE"),
+    ("architecture.md", r"where the call brings (\S+) bytes or more", "ck_journal/src/calls.rt",
+     "LONG_MESSAGE"),
+    ("architecture.md", r"A call that brings (\S+) bytes or more", "ck_journal/src/calls.rt",
+     "LONG_MESSAGE"),
+    ("architecture.md", r"A message of fewer than (\S+) bytes is", "ck_journal/src/calls.rt",
+     "LONG_MESSAGE"),
+    ("architecture.md", r"looks for the lock (\w+) times", "ck_shared/src/shared.rt", "LOOKS"),
+    ("architecture.md", r"in three ways, a (\w+) times each", "ck_races/src/runs.rt", "RUNS"),
+    ("architecture.md", r"has the lock for (\w+) milliseconds", "ck_races/src/gates.rt", "HELD"),
+    ("architecture.md", r"takes less than (\w+) milliseconds of processor time",
+     "ck_races/src/sleeping.rt", "MOST_TIME"),
+    ("architecture.md", r"milliseconds of processor time, in one of (\w+) tries",
+     "ck_races/src/sleeping.rt", "TRIES"),
+    ("architecture.md", r"one caller adds (\w+) messages of", "ck_races/src/free_locks.rt",
+     "MESSAGES"),
+    ("architecture.md", r"adds thirty messages of (\S+) bytes", "ck_races/src/free_locks.rt",
+     "LENGTH"),
+    ("architecture.md", r"the lock at least (\S+) times", "ck_races/src/free_locks.rt",
+     "LEAST_LOCKS"),
+    ("architecture.md", r"ten messages of (\S+) bytes", "ck_races/src/behind_calls.rt", "LENGTH"),
+    ("architecture.md", r"on a token that isn't shared, in one of (\w+) tries",
+     "ck_races/src/behind_calls.rt", "TRIES"),
+    ("rules.md", r"A PIN that is set has (\w+) to 64 bytes", "ck_types/src/pins.rt",
+     "SHORTEST_PIN"),
+    ("rules.md", r"A PIN that is set has 4 to (\w+) bytes", "ck_types/src/pins.rt", "LONGEST_PIN"),
+    ("rules.md", r"Its value has 1 to (\w+) bytes", "ck_objects/src/templates.rt", "LONGEST_KEY"),
+    ("rules.md", r"and each piece, has at most (\S+) bytes", "ck_journal/src/operations.rt",
+     "LONGEST_PIECE"),
+    ("rules.md", r"is its number plus (\S+) for each login", "ck_journal/src/views.rt",
+     "HANDLES_PER_LOGIN"),
+    ("script.md", r"A line has at most (\S+) bytes", "ck_script/src/lines.rt", "LONGEST_LINE"),
+    ("script.md", r"come to its end in (\S+) reads", "ck_plays/src/plays.rt", "MOST_READS"),
+    ("script.md", r"A name of at most (\w+) bytes is near", "ck_script/src/similar_names.rt",
+     "LONGEST_TEXT"),
+]
+
+# Numbers that pages write as words.
+NUMBER_WORDS = {"two": 2, "three": 3, "four": 4, "five": 5, "eight": 8, "ten": 10, "thirty": 30,
+                "hundred": 100}
+
+# The constant of a flag of the token; a user's wrong tries by which a flag is set; and a range of a
+# limit.
+FLAG = re.compile(r"const (\w+) = 0x([0-9a-f]+);")
+WRONG_TRIES = re.compile("(the user|the security officer) has ([0-9]) wrong tr(?:y|ies)( or more)?")
+RANGE = re.compile(rb"(\d+) to (\d+)")
+
+# A login of each user by a wrong PIN and by the right one. And each call that counts tries back,
+# behind calls that leave each user one wrong try.
+WRONG_LOGIN = {"the user": "1 Login 1 1 39393939", "the security officer": "1 Login 1 0 39393939"}
+RIGHT_LOGIN = {"the user": USER[5], "the security officer": USER[2]}
+BOTH_WRONG = [*WRONG_LOGIN.values()]
+WRONG_OLD_PIN = [WRONG_LOGIN["the user"], USER[2], "1 SetPIN 1 39393939 31323334"]
+COUNTING_BACK = {
+    "C_Login of the user": (BOTH_WRONG, USER[5]),
+    "C_Login of the security officer": (BOTH_WRONG, USER[2]),
+    "C_SetPIN of the user's PIN": (BOTH_WRONG, "1 SetPIN 1 75736572 75736572"),
+    "C_SetPIN of the security officer's PIN": (WRONG_OLD_PIN, "1 SetPIN 1 31323334 31323334"),
+    "C_InitPIN": (WRONG_OLD_PIN, USER[3]),
+    "C_InitToken": ([*BOTH_WRONG, "1 CloseSession 1"], USER[0]),
+}
+
+# Calls of which the last one is beyond a limit of 1, for each limit.
+BEYOND = [
+    [*USER[:2], "1 OpenSession 6"],
+    [*USER[:2], "1 CloseSession 1", "1 OpenSession 6"],
+    [*USER[:2], *["1 CreateObject 1 0=0000000000000000"] * 2],
+    [*USER, "1 Logout 1", USER[5]],
+]
+
+# Queries of a sensitive key with a label of two bytes, for each row of the table; and what the
+# answers of the table are.
+QUERIES = {
+    "it is a hidden value, with or without a buffer": ["11:4", "11:?"],
+    "the object doesn't have it, or the token knows no such type": ["10:8", "10:?", "999:8"],
+    "no buffer is given": ["3:?"],
+    "the buffer is shorter than the value": ["3:1", "3:0"],
+    "else": ["3:2", "3:8"],
+}
+# Lengths of buffers for a digest of 32 bytes, for each row of the table of replies by the buffer;
+# and what the replies of the table are.
+BUFFERS = {
+    "no buffer is given": ["?"],
+    "the buffer is shorter than that length": ["0", "31"],
+    "else": ["32", "33"],
+}
+BUFFER_REPLIES = {"the length of the digest or the signature": " :32", "the length": " :32",
+                  "the digest or the signature": " " + hashlib.sha256(b"a").hexdigest()}
+ANSWERS = {"unavailable": "!", "the length of the value": ":2", "the value": "=6162"}
 
 
 def read(*names):
@@ -129,7 +427,7 @@ class Script:
         self.call(line, f"0 {handle}")
         return handle
 
-    def play(self, tests, name):
+    def compare(self, tests):
         script = "".join(line + "\n" for line in self.calls).encode()
         output, errors, status = tests.run([], script)
         replies = output.decode().split("\n")[:-1]
@@ -137,6 +435,9 @@ class Script:
                      f"status {status}, {errors!r}, {len(replies)} replies")
         for line, reply, wanted in zip(self.calls, replies, self.replies):
             tests.expect(wanted in (None, reply), f"{line:.200}: {reply}, and not {wanted}")
+
+    def play(self, tests, name):
+        self.compare(tests)
         tests.end(name)
 
 
@@ -374,6 +675,329 @@ def calls(tests):
     tests.end("how many arguments each call takes")
 
 
+# ---- The token's flags, wrong tries, limits, and queries
+
+
+def number_in(text):
+    """A number as pages write it: in digits, with commas, as a power, as one less, or as a word."""
+    power = re.fullmatch(r"(\d+)\^(\d+)( - 1)?", text)
+    if power:
+        return int(power[1]) ** int(power[2]) - bool(power[3])
+    digits = text.replace(",", "")
+    return int(digits) if digits.isdecimal() else NUMBER_WORDS.get(text.lower())
+
+
+def is_set(where, state):
+    """Whether a flag that is set in this case is set in a token of this state."""
+    found = WRONG_TRIES.fullmatch(where)
+    if not found:
+        return where == "always (own)" or state[where]
+    tries = state[found[1]]
+    return tries >= int(found[2]) if found[3] else tries == int(found[2])
+
+
+def info_of(table, sessions=1, **changes):
+    """The reply to GetTokenInfo by the table of flags, of an initialized token whose user has a
+    PIN, after these changes of its state."""
+    state = {"the token is initialized": True, "the user has a PIN": True, "the user": 0,
+             "the security officer": 0, **changes}
+    number = sum(int(cells[1], 16) for cells in table if is_set(cells[2], state))
+    return f"0 {number:x} 64 {sessions} {sessions}"
+
+
+def flags(tests):
+    """The flags of a token without PINs, without the user's PIN, and after each wrong try; and
+    their names and numbers in the code."""
+    table = rows(tests, "flag | number (hexadecimal)")
+    said = {(name.removeprefix("CKF_"), number) for name, number, _ in table}
+    known = set(FLAG.findall(read(CRATES, "ck_types", "src", "token_flags.rt")))
+    tests.expect(said == known, f"said on the page, or known, and not both: {said ^ known}")
+    no_pin, new = {"the user has a PIN": False}, {"the token is initialized": False}
+    script = Script()
+    script.call("1 GetTokenInfo", info_of(table, 0, **no_pin, **new))
+    script.prepare(USER[:2])
+    script.call("1 GetTokenInfo", info_of(table, **no_pin))
+    script.prepare(USER[2:5])
+    script.call("1 GetTokenInfo", info_of(table))
+    wrong = {}
+    for user, number in itertools.product(WRONG_LOGIN, range(1, 4)):
+        wrong[user] = number
+        script.call(WRONG_LOGIN[user], "a0")
+        script.call("1 GetTokenInfo", info_of(table, **wrong))
+    script.play(tests, "flags of the token")
+
+
+def tries(tests):
+    """After one wrong try of each user, each call of the table counts back the tries of those in
+    whose columns it stands, and of no other."""
+    table = rows(tests, "the user | the security officer")
+    columns = {user: {row[at] for row in table if row[at]} for at, user in enumerate(WRONG_LOGIN)}
+    tests.expect(set().union(*columns.values()) == set(COUNTING_BACK), f"the calls are {columns}")
+    table = rows(tests, "flag | number (hexadecimal)")
+    for name, (before, call) in COUNTING_BACK.items():
+        script = Script()
+        script.prepare(USER[:5] + before)
+        sessions = 0 if name == "C_InitToken" else 1
+        script.call("1 GetTokenInfo", info_of(table, sessions, **dict.fromkeys(WRONG_LOGIN, 1)))
+        script.call(call, "0")
+        left = {user: int(name not in calls) for user, calls in columns.items()}
+        has_pin = {"the user has a PIN": name != "C_InitToken"}
+        script.call("1 GetTokenInfo", info_of(table, sessions, **left, **has_pin))
+        script.compare(tests)
+    tests.end("calls that count wrong tries back")
+
+
+def locks(tests):
+    """As many wrong tries as the page says lock a user, and then the right PIN isn't tried."""
+    said = re.search(r"^- (\w+) wrong tries lock a user", read(DOCS, "rules.md"), re.MULTILINE)
+    for user, login in RIGHT_LOGIN.items():
+        script = Script()
+        script.prepare(USER[:5])
+        for _ in range(number_in(said[1]) or 0 if said else 0):
+            script.call(WRONG_LOGIN[user], "a0")
+        script.call(login, "a4")
+        script.compare(tests)
+    tests.end("how many wrong tries lock a user")
+
+
+def limits(tests):
+    """The ranges are those that ck_cases takes, by the text that recorded_runs.py tries. Of cases
+    in which one limit is 1, and the others are the largest, it plays the call beyond it."""
+    table = rows(tests, "limit | range")
+    said = [[number_in(it) for it in cells[1].split(" to ")] for cells in table]
+    known = [[int(it) for it in pair] for pair in RANGE.findall(recorded_runs.BAD_LIMITS)]
+    tests.expect(said == known, f"the ranges are {said} on the page, and {known}")
+    lines = []
+    for at, (cells, calls) in enumerate(zip(table, BEYOND)):
+        code = CODED.fullmatch(cells[2])
+        limits_of_case = [1 if it == at else most for it, (_, most) in enumerate(known)]
+        lines += ["limits " + " ".join(map(str, limits_of_case)), *calls[:-1],
+                  f"{calls[-1]} -> {code and code[2]}"]
+    with tempfile.TemporaryDirectory() as folder:
+        path = os.path.join(folder, "limits.cases")
+        with open(path, "w", encoding="ascii") as file:
+            file.write("".join(line + "\n" for line in lines))
+        output, errors, status = program.Tests(recorded_runs.PROGRAM).run([path], b"")
+    tests.expect(status == 0 and f" {len(BEYOND)} passed" in output.decode(),
+                 f"cases of limits: {output.decode()} {errors}, status {status}")
+    tests.end("limits")
+
+
+def buffers(tests):
+    """The replies of the table's rows, to a single-part and to a final call."""
+    table, known = rows(tests, "| code | reply"), known_codes()
+    tests.expect({cells[0] for cells in table} == set(BUFFERS), f"the rows are not {[*BUFFERS]}")
+    script = Script()
+    script.prepare(USER)
+    for where, code, reply in table:
+        wanted = f"{known.get(code.split(' ')[0])}{BUFFER_REPLIES.get(reply)}"
+        for room in BUFFERS.get(where, []):
+            script.prepare(["1 DigestInit 1 250"])
+            script.call(f"1 Digest 1 61 {room}", wanted)
+            script.prepare(["1 SessionCancel 1 400", "1 DigestInit 1 250", "1 DigestUpdate 1 61"])
+            script.call(f"1 DigestFinal 1 {room}", wanted)
+            script.prepare(["1 SessionCancel 1 400"])
+    script.play(tests, "replies by the buffer")
+
+
+def queries(tests):
+    """The answers of the table's rows with their codes; and of several faults the code is that of
+    the first one in the table, in whatever order the queries are."""
+    table = rows(tests, "| answer | fault")
+    tests.expect({cells[0] for cells in table} == set(QUERIES), f"the rows are not {[*QUERIES]}")
+    script = Script()
+    script.prepare(USER)
+    key = script.create(creation("key", "103=01", "3=6162"))
+    faults = []
+    for where, answer, fault in table:
+        code = CODED.search(fault)
+        for query in QUERIES.get(where, []):
+            script.call(f"1 GetAttributeValue 1 {key} {query}",
+                        f"{code[2] if code else 0} {ANSWERS.get(answer)}")
+        faults += [(len(faults), query, code[2]) for query in QUERIES.get(where, [])[:1] if code]
+    for count in (2, 3):
+        for some in itertools.permutations(faults, count):
+            asked = ",".join(query for _, query, _ in some)
+            script.call(f"1 GetAttributeValue 1 {key} {asked},3:8",
+                        f"{min(some)[2]} {'!,' * count}=6162")
+    script.play(tests, "answers to queries, and their codes")
+
+
+# ---- The calls, and their checks
+
+
+def part_of(page, title):
+    """What stands below a title of a page, up to the next title."""
+    _, _, rest = read(DOCS, page).partition(f"\n{title}\n")
+    return rest.partition("\n#")[0]
+
+
+def known_codes():
+    """The number of each code, by its name."""
+    return {name: code for code, name in CODE.findall(read(CRATES, "ck_run", "src", "texts.rt"))}
+
+
+def codes_of_template(purpose):
+    """The codes of the checks of a template that does this, in their order."""
+    said = re.sub(r"\([^()]*\)", "", part_of("rules.md", "## Checks of templates"))
+    _, *parts = FRONT.split(said)
+    return [known_codes().get(name) for front, text in zip(parts[::2], parts[1::2])
+            if front in TEMPLATES[purpose] for name in CODE_NAME.findall(text)]
+
+
+def codes_in_rules(tests, text):
+    """The codes that these rules of a call name, in their order."""
+    known = known_codes()
+    queries = [CODED.search(cells[2]) for cells in rows(tests, "| answer | fault")]
+    for found in CHECK.finditer(" ".join(text.split())):
+        if found["purpose"]:
+            yield from codes_of_template(found["purpose"])
+        elif found["buffer"]:
+            yield known["CKR_BUFFER_TOO_SMALL"]
+        elif found["queries"]:
+            yield from (it[2] for it in queries if it)
+        else:
+            tests.expect(known.get(found["name"]) == found["code"], f"rules.md: {found[0]}")
+            yield found["code"]
+
+
+def without_repeats(codes):
+    """The codes, where each that follows itself counts once: two checks of a list may have one."""
+    return [code for code, _ in itertools.groupby(codes)]
+
+
+def codes_on_page(checks):
+    """The codes of each call, in the order of its checks. The first one of a call that names a
+    session is said of all of them."""
+    _, *parts = CALL.split(part_of("rules.md", "## The calls"))
+    codes = {}
+    for name, given, text in zip(parts[::3], parts[1::3], parts[2::3]):
+        numbers = re.findall(r"^(\d+)\. ", text, re.MULTILINE)
+        checks.expect(numbers == [str(it + 1) for it in range(len(numbers))],
+                     f"{name}: the checks have the numbers {numbers}")
+        first = ["b3"] if (given or "").split(", ")[0] == "session" else []
+        codes[name] = without_repeats(first + [*codes_in_rules(checks, text)])
+    return codes
+
+
+def codes_in_comment(text, name):
+    """The codes that a comment names, in their order: first with its name, and then by itself. What
+    is said `of a signature` isn't said of another call."""
+    text = re.sub("of a signature (.*?);", r"\1;" if name.startswith("Sign") else "", text)
+    named = {code for _, code in CODED.findall(text)}
+    codes = [found[2] or found[0] for found in CODED_AGAIN.finditer(text)]
+    return without_repeats(code for code in codes if code in named)
+
+
+def codes_in_code():
+    """The codes of each call by the comment of the function that decides it. One that isn't of the
+    standard goes by the function's name."""
+    codes = {}
+    for path in sorted(glob.glob(os.path.join(CRATES, "ck_token", "src", "tokens", "*.rt"))):
+        for comment, function in DECISION.findall(read(path)):
+            text = " ".join(comment.replace("///", " ").split())
+            of_call = re.search(r"^(.*?)(?:Checks?: (.*)|, which is never refused\.)", text)
+            for name in OF_CALL.findall(of_call[1]) if of_call else []:
+                codes[name] = codes_in_comment(of_call[2] or "", name)
+            if of_call and not OF_CALL.search(of_call[1]):
+                name = function.title().replace("_", "")
+                codes[name] = codes_in_comment(of_call[2] or "", name)
+    return codes
+
+
+def codes_recorded():
+    """The codes with which each call is answered in the cases."""
+    codes = {}
+    for path in glob.glob(os.path.join(CRATES, "ck_cases", "data", "*.cases")):
+        for name, code in RECORDED.findall(read(path)):
+            codes.setdefault(name, set()).add(code)
+    return codes
+
+
+def checks_of_calls(tests):
+    """The page has the checks of each call in the order in which the comment of its decision has
+    them, and each code is that of a case. Those of pieces that are too long are played below."""
+    page, code, recorded = codes_on_page(tests), codes_in_code(), codes_recorded()
+    names = {name.strip("`") for name, _ in rows(tests, "call | arguments")}
+    tests.expect(set(page) == names, f"said in one page only: {set(page) ^ names}")
+    tests.expect(set(code) == names - {UNDECIDED}, f"said, or decided: {set(code) ^ names}")
+    for name, said in page.items():
+        decided = code.get(name, [])
+        tests.expect(said == decided, f"{name}: {said} on the page, {decided} in the code")
+        others = recorded.get(name, set()) ^ {"0", *said}
+        tests.expect(others <= {"21"}, f"{name}: on the page, or in a case, and not both: {others}")
+    tests.end("the checks of each call on the page of rules")
+
+
+def arguments(tests):
+    """Each row of the table of arguments: texts that it allows are read, and others aren't, with
+    their reasons."""
+    table = rows(tests, "argument | text")
+    said, known = dict(table), {name: text for name, (text, *_) in ARGUMENTS.items()}
+    tests.expect(said == known, f"the page, or what is played: {said.items() ^ known.items()}")
+    script = Script()
+    for _, lines, good, bad in ARGUMENTS.values():
+        for line in lines:
+            script.prepare([line.format(text) for text in good])
+            for text, reason in bad.items():
+                program.check_bad_line(tests, line.format(text).encode(), reason)
+    script.play(tests, "how arguments are written")
+
+
+def replies(tests):
+    """Each row of the table of replies, by calls that are answered so."""
+    said = dict(rows(tests, "what comes with the code | text after the code"))
+    known = {name: text for name, (text, _) in REPLIES.items()}
+    tests.expect(said == known, f"the page, or what is played: {said.items() ^ known.items()}")
+    page = " ".join(read(DOCS, "script.md").split())
+    tests.expect(LETTERS in page, f"the page of scripts doesn't say: {LETTERS}")
+    script = Script()
+    for _, calls in REPLIES.values():
+        for line, reply in calls.items():
+            script.call(line, reply)
+    script.play(tests, "how replies are written")
+
+
+def order_of_faults(checks):
+    """The faults of a line in the order of the page, which names some by their table."""
+    _, _, said = read(DOCS, "script.md").partition("one is named, the first in this order:\n\n")
+    table = rows(checks, "what is wrong | text")
+    for item in re.findall(r"^\d\. (.*)[;.]$", said.partition("\n\n")[0], re.MULTILINE):
+        next_rows = re.search(r"of the table's next (\w+) ", item)
+        count = number_in(next_rows[1]) if next_rows else None
+        yield from [cells[0] for cells in table[1:count + 1]] if count else item.split(", ")
+
+
+def faulty_line(faults):
+    """A line with these faults, or none where no line has all of them."""
+    if len({*faults} & {"the caller", "a caller above N"}) == 2:
+        return None
+    parts = {"front": b"", "caller": b"1", "gap": b" ", "name": b"Login", "between": b" ",
+             "first": b"1", "rest": b" 1 31", "more": b"", "end": b""}
+    for fault in faults:
+        parts.update(FAULTS[fault][1])
+    if "fewer than two words" in faults:
+        if {*faults} & {"the call's name", "the count of its arguments", "the first bad argument"}:
+            return None
+        parts["gap"] = parts["gap"].replace(b" ", b"")
+        parts["between"] = parts["between"][1:]
+    return b"".join(parts.values())
+
+
+def faults_of_lines(tests):
+    """Of each two faults of a line the one is named that comes first on the page."""
+    order = list(order_of_faults(tests))
+    tests.expect(sorted(order) == sorted(FAULTS), f"the faults are {order}")
+    for faults in itertools.combinations(order, 2):
+        line = faulty_line(faults) if {*faults} <= {*FAULTS} else None
+        is_above = "a caller above N" in faults
+        if line:
+            tests.check(["--callers", "2"] if is_above else [], b"1 InitToken 31323334\n" + line,
+                        b"" if is_above else b"0\n",
+                        *program.bad_script(2, FAULTS[faults[0]][0]))
+    tests.end("which of two faults of a line is named")
+
+
 # ---- What pages say that is said elsewhere
 
 
@@ -427,6 +1051,180 @@ def names_of_mechanisms(tests):
     tests.end("names of mechanisms on the page of programs")
 
 
+def number_of(value, known):
+    """The number of a constant's text: a number, a shift of one, or names joined by bars. None
+    where it is another text."""
+    names = value.split(" | ")
+    if known.keys() >= {*names}:
+        return sum(known[name] for name in names)
+    found = re.fullmatch(r"(0x[0-9a-f]+|[0-9]+)(?: << ([0-9]+))?", value.replace("_", ""))
+    return int(found[1], 0) << int(found[2] or 0) if found else None
+
+
+def constants_of(path):
+    """The constants of a file, by their names."""
+    known = {}
+    for name, value in CONSTANT.findall(read(CRATES, *path.split("/"))):
+        known[name] = number_of(value, known)
+    return known
+
+
+def named_numbers():
+    """The numbers of the names that programs give to calls: of constants, and of variants."""
+    known = {}
+    for path in NAMED:
+        known.update(constants_of(path))
+        for name, value in VARIANT.findall(read(CRATES, *path.split("/"))):
+            known.setdefault(name, number_of(value, known))
+    return known
+
+
+def names_of_arguments(tests):
+    """The rows of names that aren't mechanisms have the standard's names and numbers, and those of
+    the code."""
+    known, table = named_numbers(), rows(tests, "name | the standard's")
+    said = [cells for cells in table if re.match("CK[UFOK]_", cells[1])]
+    tests.expect(len(said) == 5, f"{len(said)} rows of names with numbers")
+    for names, standard, numbers in said:
+        names = [name.split("::")[-1] for name in QUOTED.findall(names)]
+        numbers = [int(it, 16) for it in numbers.split(" (")[0].split(", ")]
+        wanted = [known.get(name) for name in names]
+        tests.expect(wanted in (numbers, numbers * 2), f"{names}: {numbers}, and not {wanted}")
+        of_standard = [STANDARD.get(it) for it in standard.split(", ")]
+        tests.expect(of_standard == numbers, f"{standard}: {numbers}, and not {of_standard}")
+    tests.end("names and numbers on the page of programs")
+
+
+def heads_of_functions():
+    """The functions with contracts: the names of what each is given except itself, and whether it
+    gives a result."""
+    heads = {}
+    for path in glob.glob(os.path.join(CRATES, "*", "src", "**", "*.rt"), recursive=True):
+        for name, _, lines in contracts.contracts_in(path):
+            given, result = HEAD.match(" ".join(" ".join(lines).split())).groups()
+            given = [it.split(":")[0] for it in re.split(r",\s*", given.strip(" ,")) if it]
+            heads[name] = ([it for it in given if not it.endswith("self")],
+                           (result or "").startswith("Result<"))
+    return heads
+
+
+def functions_of_programs(tests):
+    """The functions of the page have contracts, are given as many arguments as are shown, and give
+    a result where a question mark stands."""
+    heads, owner = heads_of_functions(), ""
+    for names, _ in rows(tests, "function | makes"):
+        for shown in QUOTED.findall(names):
+            found = SHOWN.fullmatch(shown)
+            owner = found["owner"] or owner
+            given, is_result = heads.get(f"{owner}::{found['name']}", (None, False))
+            tests.expect(given is not None, f"{shown}: there is no such function of {owner}")
+            if given is not None and found["given"]:
+                shown_given = found["given"].split(", ")
+                tests.expect(len(given) == len(shown_given) and is_result == bool(found["asks"]),
+                             f"{shown} is given {given}, and gives a result: {is_result}")
+    tests.end("functions on the page of programs")
+
+
+def likeness(first, second):
+    """How many words two texts have in common, of those that one of them has."""
+    first, second = ({*re.findall(r"\w+", text.lower())} for text in (first, second))
+    return len(first & second) / len(first | second)
+
+
+def laws(tests):
+    """The names on the page are those of the laws that are proved, and stand in the specs; those of
+    wrong definitions are the same. And no two laws have the words of one another: with these
+    exchanged they would be more like the comments in the code."""
+    laws_of_keys, _, wrong = read(DOCS, "laws.md").partition("## Wrong definitions")
+    words = dict(LAW.findall(laws_of_keys))
+    specs = {name for it in FILES_OF_LAWS
+             for name in STATEMENT.findall(read(CRATES, "ck_journal", "specs", it))}
+    comments = {name: comment for it in ("laws.rt", "cuts.rt")
+                for comment, name in PROVED.findall(read(CRATES, "ck_journal", "src", it))}
+    of_cuts = {name for name in comments if f"`{name}`" in part_of("laws.md", CUT_TITLE)}
+    said = [name for name, _ in LAW.findall(laws_of_keys)] + sorted(of_cuts)
+    tests.expect(sorted(said) == sorted(comments), f"the laws on the page are {said}")
+    turned = {name for name, _ in LAW.findall(wrong)}
+    tests.expect(turned == {*comments}, f"wrong definitions, or laws: {turned ^ {*comments}}")
+    tests.expect({*comments} <= specs, f"not in the specs: {comments.keys() - specs}")
+    for one, other in itertools.combinations(comments.keys() & words.keys(), 2):
+        right = likeness(words[one], comments[one]) + likeness(words[other], comments[other])
+        wrong = likeness(words[one], comments[other]) + likeness(words[other], comments[one])
+        tests.expect(right > wrong, f"{one} and {other} seem to have each other's words")
+    tests.end("the page of laws")
+
+
+def race_faults(what, comes, race):
+    """Where a race has others than the page says: as many callers as the row begins with; the
+    codes, which are the first ones by which calls of theirs are refused; how often a code comes;
+    and handles, each of which comes once."""
+    replies = REPLY.findall(race.partition("\ntogether")[2].partition("\nafterwards")[0])
+    callers = {caller for caller, _ in replies}
+    if len(callers) != (number_in(what.split(" ")[0]) or 2):
+        yield f"{len(callers)} callers"
+    texts = [reply for _, reply in replies]
+    refused = without_repeats(it for it in texts if it.split(" ")[0] != "0")
+    codes = [known_codes().get(name) for name in CODE_NAME.findall(comes)]
+    if codes != refused[:len(codes)]:
+        yield f"calls are refused by {refused}"
+    for count, name in re.findall(r"(\w+) times (CKR_\w+)", comes):
+        if texts.count(known_codes().get(name)) != number_in(count):
+            yield f"{count} times {name}"
+    for handle in re.findall(r"\b\d+\b", comes):
+        if texts.count(f"0 {handle}") != 1:
+            yield f"the handle {handle}"
+
+
+def races_of_threads(tests):
+    """Each row of the table of races is shown by a race of ck_races, except that of questions."""
+    races = read(CRATES, "ck_races", "data", "callers.races").split("\n\n")
+    table = dict(rows(tests, "what callers do at once | what comes"))
+    tests.expect({*table} == {*RACES, ASKING}, f"said, or played: {table.keys() ^ RACES.keys()}")
+    for what, comment in RACES.items():
+        shown = [race for race in races if race.startswith(f"# {comment}")]
+        tests.expect(len(shown) == 1, f"{len(shown)} races begin {comment}")
+        for race in shown[:1]:
+            faults = list(race_faults(what, table.get(what, ""), race))
+            tests.expect(not faults, f"{what}: in the race: {faults}")
+    tests.end("the table of races on the page of threads")
+
+
+def body_of(path, name):
+    """The lines between the braces of a function."""
+    found = re.search(rf"^( *)(?:pub )?fn {name}\(.*?^\1\{{\n(.*?)^\1\}}$", read(CRATES, *path),
+                      re.MULTILINE | re.DOTALL)
+    return found[2] if found else ""
+
+
+def sketch_of_call(tests):
+    """The steps of one call stand in the code in the order of the page."""
+    section = part_of("architecture.md", "## One call: decide, reserve, apply, enter")
+    steps = re.findall(r"^    (\S.*?)(?: }\))?(?: +//.*)?$", section, re.MULTILINE)[:6]
+    path = ("ck_token", "src", "tokens.rt")
+    prepared = body_of(path, "call_after").replace("prepare(", body_of(path, "prepare"), 1)
+    rest = " ".join(prepared.split())
+    tests.expect(len(steps) == 6, f"the steps are {steps}")
+    for step in steps:
+        front = step.split(" caller")[0]
+        tests.expect(front in rest, f"architecture.md: {step} doesn't come then")
+        rest = rest.partition(front)[2]
+    tests.end("the sketch of one call on the page of architecture")
+
+
+def numbers_of_pages(tests):
+    """Numbers on pages are those of constants, and the count of calls is that of their table."""
+    for page, words, path, name in NUMBERS_ON_PAGES:
+        found = re.search(words, " ".join(read(DOCS, page).split()))
+        number = number_in(found[1]) if found else None
+        constant = constants_of(path).get(name)
+        tests.expect(number is not None and number == constant,
+                     f"{page}: {words}: {number}, and {name} is {constant}")
+    count = re.findall(r"It has (\d+) calls", read(DOCS, "..", "README.md"))
+    there = len(rows(tests, "call | arguments"))
+    tests.expect(count == [str(there)], f"README.md: {count} calls, and not {there}")
+    tests.end("numbers on pages that are constants")
+
+
 def main(path):
     tests = program.Tests(path, "rules")
     attributes(tests)
@@ -436,11 +1234,27 @@ def main(path):
     mechanisms(tests)
     session_states(tests)
     pieces(tests)
+    flags(tests)
+    tries(tests)
+    locks(tests)
+    limits(tests)
+    buffers(tests)
+    queries(tests)
+    checks_of_calls(tests)
     calls(tests)
+    arguments(tests)
+    replies(tests)
+    faults_of_lines(tests)
     codes(tests)
     reasons(tests)
     statuses(tests)
     names_of_mechanisms(tests)
+    names_of_arguments(tests)
+    functions_of_programs(tests)
+    laws(tests)
+    races_of_threads(tests)
+    sketch_of_call(tests)
+    numbers_of_pages(tests)
     return tests.status()
 
 

@@ -17,9 +17,10 @@ FIRST_CALLS = ["1 InitToken 31323334", "1 OpenSession 6"]
 # How often scripts are played at least, and at most, before what takes too long is told.
 TRIES, MOST_TRIES = 3, 12
 
-# How many objects there are, in scripts that are compared, and how many searches among the few.
+# How many objects there are, in scripts that are compared, and how many searches among the few and
+# among the many.
 FEW, MANY = 20_000, 80_000
-SEARCHES = 2_000
+SEARCHES, SEARCHES_OF_MANY = 2_000, 500
 
 
 def seconds_of(tests, calls):
@@ -71,6 +72,23 @@ def changes(count):
     return [f"1 SetAttributeValue 1 {number + 1} 3={number:08x}" for number in range(count)]
 
 
+def copies(count):
+    """Calls that copy the first object, each time with a label of its own."""
+    return [f"1 CopyObject 1 1 3={number:08x}" for number in range(count)]
+
+
+def generations(count):
+    """Calls that generate public keys, each with an identifier of its own."""
+    return [f"1 GenerateKey 1 350 161=0100000000000000,2=00,102={number:08x} 00"
+            for number in range(count)]
+
+
+def private_objects(count):
+    """Calls that create private token objects, with the user logged in, and log the user out."""
+    return ["1 Login 1 0 31323334", "1 InitPIN 1 75736572", "1 Logout 1", "1 Login 1 1 75736572",
+            *["1 CreateObject 1 0=0000000000000000,1=01,2=01"] * count, "1 Logout 1"]
+
+
 def single_results(count):
     """Calls that search for all of these objects, and get them one by one."""
     return ["1 FindObjectsInit 1 -"] + ["1 FindObjects 1 1"] * count
@@ -107,9 +125,9 @@ def sessions(count, objects=0, closing="CloseSession {}"):
         "1 " + closing.format(number + 2))]
 
 
-def logins(count):
+def logins(count, login="1 Login 1 0 31323334"):
     """Calls that log in and out."""
-    return ["1 Login 1 0 31323334", "1 Logout 1"] * count
+    return [login, "1 Logout 1"] * count
 
 
 def long_template(count):
@@ -124,14 +142,16 @@ def is_faster_by_label(before, with_labels, with_others):
 
 def label_searches(tests):
     """A search by a label passes over most objects without reading them, also where the template
-    begins with another attribute, where the labels were given anew, and among keys."""
-    made = creations(FEW)
-    for first, attributes, other in ((made, "3", "10"), (made, "0=0000000000000000,3", "10"),
-                                     (made + changes(FEW), "3", "10"), (keys(FEW), "3", "102")):
-        scripts = (first, first + searches(SEARCHES, attributes), first + searches(SEARCHES, other))
+    begins with another attribute, where the labels were given anew, among keys, and among many."""
+    made, most = creations(FEW), creations(MANY)
+    for first, attributes, other, count in (
+            (made, "3", "10", SEARCHES), (made, "0=0000000000000000,3", "10", SEARCHES),
+            (made + changes(FEW), "3", "10", SEARCHES), (keys(FEW), "3", "102", SEARCHES),
+            (most, "3", "10", SEARCHES_OF_MANY)):
+        scripts = (first, first + searches(count, attributes), first + searches(count, other))
         times = least_seconds(tests, scripts, is_faster_by_label)
         tests.expect(is_faster_by_label(*times),
-                     f"{len(first)} calls took {times[0]:.3f} s, with {SEARCHES} searches by "
+                     f"{len(first)} calls took {times[0]:.3f} s, with {count} searches by "
                      f"{attributes} {times[1]:.3f} s, by {other} {times[2]:.3f} s")
     tests.end("searches by label")
 
@@ -149,6 +169,11 @@ EVEN = [
      lambda count: sessions(count, 2, "CloseAllSessions")),
     ("sessions beside objects of another", lambda count: creations(count) + sessions(count)),
     ("logins beside objects", lambda count: creations(count) + logins(count)),
+    ("logins beside private objects",
+     lambda count: private_objects(count) + logins(count, "1 Login 1 1 75736572")),
+    ("changes of labels", lambda count: creations(count) + changes(count)),
+    ("copies of one object", lambda count: creations(1) + copies(count)),
+    ("generated keys", generations),
     ("items of two attributes each in a template", long_template),
 ]
 

@@ -61,6 +61,11 @@ TRIES_OF_MEMORY = 3
 # The most seconds in which a process ends by itself while its C_Initialize waits in another thread.
 SECONDS_OF_EXIT = 20
 
+# How many of the longest lines are read, and the most seconds of processor time that this takes:
+# far more than it does on a slow machine.
+LONG_LINES = 16
+SECONDS_OF_LINES = 2
+
 # Users that need not have a name.
 OWNER, OTHER_USER = 1, 2
 
@@ -1266,6 +1271,32 @@ class Tests:
             self.checks.equal((found, later), (1000, DEVICE_ERROR), "the first handles")
             self.checks.equal(content, whole[:second], "the file ends with the first piece")
 
+    def test_pieces_of_search(self):
+        """A search for as many handles as are in whole pieces makes no call more."""
+        path = self.file("pieces_of_search.cases")
+        self.begin(JOURNAL=path)
+        self.say_all(LOG_IN[:2] + ["1 CreateObject 1 0=0000000000000000,2=00"] * 3500)
+        self.checks.equal(self.module.say("1 FindObjectsInit 1 -"), "0", "the start of the search")
+        for count in (2000, 1000):
+            found = self.module.say(f"1 FindObjects 1 {count}")
+            self.checks.equal(found.count(",") + 1, count, "the handles that are found")
+        self.end()
+        calls = [line.partition(" -> ")[0] for line in read(path).decode().split("\n")]
+        self.checks.equal([call for call in calls if call.startswith("1 FindObjects ")],
+                          ["1 FindObjects 1 1000"] * 3, "the calls in the file")
+        support.audit(self.checks, self.ck_cases, path)
+
+    def test_time_of_lines(self):
+        """Long lines of a file are read in a time that doesn't grow with their length."""
+        path = self.file("long_lines.cases")
+        comment = b"#" * LONGEST_LINE + b"\n"
+        write(path, b"limits largest\n" + comment * LONG_LINES)
+        before = time.process_time()
+        self.begin(TOKEN=path)
+        taken = time.process_time() - before
+        self.end()
+        self.checks.check(taken < SECONDS_OF_LINES, f"{LONG_LINES} long lines took {taken} s")
+
     def draw(self, count):
         """Random bytes in session 1."""
         out = (support.c_ubyte * count)()
@@ -1453,7 +1484,7 @@ TESTS = [Tests.test_file, Tests.test_counted_journals, Tests.test_mode, Tests.te
          Tests.test_waiting, Tests.test_unload,
          Tests.test_unload_with_functions, Tests.test_rights, Tests.test_kills, Tests.test_full,
          Tests.test_filling, Tests.test_filling_in_update, Tests.test_filling_in_search,
-         Tests.test_seed,
+         Tests.test_pieces_of_search, Tests.test_time_of_lines, Tests.test_seed,
          Tests.test_nobody_reads_errors, Tests.test_signals_in_errors, Tests.test_seeded_bytes,
          Tests.test_long_template, Tests.test_cut, Tests.test_memory]
 
