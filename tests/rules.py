@@ -116,9 +116,10 @@ TEMPLATES = {
     "copies": ("All", "Copied", "Copied and changed"),
     "sets": ("All", "Copied and changed"),
 }
-# The comment of a function that decides a call, a call of the standard, and a call that no function
-# decides, since it is never refused.
+# The function that decides a call, with its comment; what the comment says of checks, and the calls
+# of the standard that it names; and a call that no function decides, since it is never refused.
 DECISION = re.compile(r"((?: *///.*\n)+) *pub\(super\) fn (\w+)")
+CHECKED = re.compile(r"^(.*?)(?:Checks?: (.*)|, which is never refused\.)")
 OF_CALL = re.compile(r"\bC_(\w+)")
 UNDECIDED = "CloseAllSessions"
 # A call of a case, with the code of its reply.
@@ -895,13 +896,11 @@ def codes_in_code():
     codes = {}
     for path in sorted(glob.glob(os.path.join(CRATES, "ck_token", "src", "tokens", "*.rt"))):
         for comment, function in DECISION.findall(read(path)):
-            text = " ".join(comment.replace("///", " ").split())
-            of_call = re.search(r"^(.*?)(?:Checks?: (.*)|, which is never refused\.)", text)
-            for name in OF_CALL.findall(of_call[1]) if of_call else []:
-                codes[name] = codes_in_comment(of_call[2] or "", name)
-            if of_call and not OF_CALL.search(of_call[1]):
-                name = function.title().replace("_", "")
-                codes[name] = codes_in_comment(of_call[2] or "", name)
+            found = CHECKED.search(" ".join(comment.replace("///", " ").split()))
+            if found:
+                own_name = function.title().replace("_", "")
+                for name in OF_CALL.findall(found[1]) or [own_name]:
+                    codes[name] = codes_in_comment(found[2] or "", name)
     return codes
 
 
@@ -1132,25 +1131,25 @@ def likeness(first, second):
 
 
 def laws(tests):
-    """The names on the page are those of the laws that are proved, and stand in the specs; those of
-    wrong definitions are the same. And no two laws have the words of one another: with these
-    exchanged they would be more like the comments in the code."""
-    laws_of_keys, _, wrong = read(DOCS, "laws.md").partition("## Wrong definitions")
-    words = dict(LAW.findall(laws_of_keys))
+    """The laws on the page are the statements of the specs that are proved, and so are those of
+    wrong definitions. And no two laws have the words of one another: with these exchanged they
+    would be more like the comments in the code."""
+    statements, _, definitions = read(DOCS, "laws.md").partition("## Wrong definitions")
+    words = dict(LAW.findall(statements))
     specs = {name for it in FILES_OF_LAWS
              for name in STATEMENT.findall(read(CRATES, "ck_journal", "specs", it))}
     comments = {name: comment for it in ("laws.rt", "cuts.rt")
                 for comment, name in PROVED.findall(read(CRATES, "ck_journal", "src", it))}
-    of_cuts = {name for name in comments if f"`{name}`" in part_of("laws.md", CUT_TITLE)}
-    said = [name for name, _ in LAW.findall(laws_of_keys)] + sorted(of_cuts)
+    said = [name for name, _ in LAW.findall(statements)]
+    said += [name for name in comments if f"`{name}`" in part_of("laws.md", CUT_TITLE)]
+    turned = {name for name, _ in LAW.findall(definitions)}
     tests.expect(sorted(said) == sorted(comments), f"the laws on the page are {said}")
-    turned = {name for name, _ in LAW.findall(wrong)}
     tests.expect(turned == {*comments}, f"wrong definitions, or laws: {turned ^ {*comments}}")
-    tests.expect({*comments} <= specs, f"not in the specs: {comments.keys() - specs}")
+    tests.expect(specs == {*comments}, f"in the specs, or proved: {specs ^ {*comments}}")
     for one, other in itertools.combinations(comments.keys() & words.keys(), 2):
-        right = likeness(words[one], comments[one]) + likeness(words[other], comments[other])
-        wrong = likeness(words[one], comments[other]) + likeness(words[other], comments[one])
-        tests.expect(right > wrong, f"{one} and {other} seem to have each other's words")
+        now = likeness(words[one], comments[one]) + likeness(words[other], comments[other])
+        then = likeness(words[one], comments[other]) + likeness(words[other], comments[one])
+        tests.expect(now > then, f"{one} and {other} seem to have each other's words")
     tests.end("the page of laws")
 
 
