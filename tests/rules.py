@@ -11,8 +11,8 @@ have as many rows as are said here, and attributes and states that it doesn't ha
 Last, what pages say is compared with what the sources and other tests have: the checks of each
 call, return codes, reasons of bad lines, statuses, names and functions for programs, names of laws,
 races, and numbers. The program is crates/ck_run/out/ck_run, which `rt ci` leaves, or the one that
-is named. For each test a line is printed that begins with passed or FAILED, and the status is 1
-where one failed.
+is named; cases of limits are played by crates/ck_cases/out/ck_cases. For each test a line is
+printed that begins with passed or FAILED, and the status is 1 where one failed.
 """
 import glob
 import hashlib

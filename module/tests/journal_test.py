@@ -1287,7 +1287,7 @@ class Tests:
         support.audit(self.checks, self.ck_cases, path)
 
     def test_time_of_lines(self):
-        """Long lines of a file are read in a time that doesn't grow with their length."""
+        """The longest lines of a file are read in little time."""
         path = self.file("long_lines.cases")
         comment = b"#" * LONGEST_LINE + b"\n"
         write(path, b"limits largest\n" + comment * LONG_LINES)
