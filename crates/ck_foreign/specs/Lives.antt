@@ -18,8 +18,8 @@ pub record IsNew (m : Module) : Type 0 where
   pub reply : m.reply ≡ record { rv = rv.Ok; body = body.Empty }
   pub text : m.text.items ≡ []
 
--- the reply and the text stay, and the token's journal is cut or not, as `Token::cut` says; where it
--- is, later calls are answered as they would have been
+-- the reply and the text stay, and the token's journal is cut or not, as `Token::cut` says; where
+-- it is, later calls are answered as they would have been
 abbrev pub IsModuleCut : Result (Unit {0}) Uncut → Module → Module → Type 0
 IsModuleCut (Ok done) old new =
     ((journal : JournalState) × IsCut old.token new.token (Ok journal))
