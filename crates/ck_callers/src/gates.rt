@@ -1,3 +1,4 @@
+use crate::asks::{Ask, Status};
 use crate::callers::Caller;
 use crate::identity::TokenId;
 use ck_journal::{Call, Reply};
@@ -5,9 +6,14 @@ use ck_types::NoMemory;
 use std::alloc::Global;
 use std::sync::Wait;
 
-/// What answers the calls of callers: a shared token, or something that hands them on to one.
+/// What answers the calls and the questions of callers: a shared token, or something that hands
+/// them on to one.
 pub trait Gate<K: TokenId> {
-    ghost use Rattle.std.specs.Prelude.{◌≡◌, IfOk, OnErr};
+    ghost use Rattle.std.specs.Prelude.{◌≡◌, IfOk, OnErr, IfSome, IfNone, OnSome};
+    ghost use Rattle.ck_journal.specs.Answers.{IsLegal, answer};
+    ghost use Rattle.ck_journal.specs.Callers.{entries_by};
+    ghost use Rattle.ck_journal.specs.Fronts.{IsFront};
+    ghost use Rattle.ck_callers.specs.Asks.{call_of_ask, reply_of_status};
     ghost use Rattle.ck_callers.specs.Callers.{HasCalled};
 
     /// One call of a caller.
@@ -21,4 +27,18 @@ pub trait Gate<K: TokenId> {
         ensures called { IfOk result (λ reply.
             HasCalled K.limits caller.old call reply caller.new) }
         ensures caller { OnErr result (caller.new ≡ caller.old) };
+
+    /// Answers a question of a caller, which needs no gate: it is the answer of `Caller::status`.
+    fn status(&self, caller: &mut Caller<K>, ask: Ask) -> Option<Status>
+        ensures answer { IfSome result (λ status.
+            reply_of_status status ≡ answer K.limits caller.new.seen (call_of_ask ask)) }
+        ensures legal { OnSome result (IsLegal K.limits caller.new.seen) }
+        ensures own { OnSome result (entries_by caller.new.number caller.new.seen
+            ≡ entries_by caller.new.number caller.new.last) }
+        ensures front { IsFront caller.old.seen caller.new.seen }
+        ensures same { caller.new ≡ record caller.old { seen = caller.new.seen } }
+        ensures unchanged { IfNone result (caller.new ≡ caller.old) }
+    {
+        caller.status(ask)
+    }
 }

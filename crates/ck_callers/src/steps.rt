@@ -62,7 +62,7 @@ impl<K: TokenId> NextStep<K, Answered> for Step {
                 Ok(Answered::Reply { reply, seen })
             }
             Step::Ask(ask) => {
-                let status = caller.status(ask);
+                let status = gate.status(caller, ask);
                 let seen = caller.seen();
                 Ok(Answered::Status { status, seen })
             }

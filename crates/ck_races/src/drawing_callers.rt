@@ -81,7 +81,7 @@ impl<'a, 'c, K: TokenId, G: Gate<K>, R: Wait> DrawingCaller<'a, 'c, K, G, R> {
         let handles = &sets[number as usize % SETS];
         self.make_row(handles, row)?;
         let session = handles.session.load(Ordering::SeqCst);
-        let status = self.caller.status(Ask::Session(session));
+        let status = self.gate.status(self.caller, Ask::Session(session));
         ensure!(status.is_some(), "a question is not answered");
         Ok(())
     }
