@@ -20,7 +20,7 @@ pub struct Caller<K: TokenId> {
     account: Account<K>,
     /// The history of its last reply. Only contracts read it.
     last: Front<K>,
-    seen: KnownHistory<K>,
+    known: KnownHistory<K>,
     reader: ReadHandle<BoardCopy<K>>,
 }
 
@@ -40,10 +40,10 @@ impl<K: TokenId> Model for Caller<K> {
       number = c.account.number;
       count = c.account.count;
       last = c.last;
-      seen = c.seen.history;
+      seen = c.known.history;
     } };
 
-    ghost invariant = { λ c. IsFront c.last c.seen.history
+    ghost invariant = { λ c. IsFront c.last c.known.history
         × (call_count c.account.number c.last ≡ c.account.count) };
 }
 
@@ -70,7 +70,7 @@ impl<K: TokenId> Caller<K> {
         Caller {
             account,
             last: known.front().duplicate(),
-            seen: known.duplicate(),
+            known: known.duplicate(),
             reader,
         }
     }
@@ -94,7 +94,7 @@ impl<K: TokenId> Caller<K> {
         ensures length { result ≡ entry_count self.now.seen }
         ensures legal { IsLegal K.limits self.now.seen }
     {
-        self.seen.front().len()
+        self.known.front().len()
     }
 
     /// Its number, and its count, which the books have too.
@@ -109,7 +109,7 @@ impl<K: TokenId> Caller<K> {
     pub fn known(&self) -> &KnownHistory<K>
         ensures { result.now.history ≡ self.now.seen }
     {
-        &self.seen
+        &self.known
     }
 
     /// What the caller knows of the history, for others to learn.
@@ -117,7 +117,7 @@ impl<K: TokenId> Caller<K> {
         ensures { result ≡ self.now.seen }
     {
         News {
-            known: self.seen.duplicate(),
+            known: self.known.duplicate(),
         }
     }
 
@@ -128,8 +128,8 @@ impl<K: TokenId> Caller<K> {
         ensures news { IsFront news.now self.new.seen }
         ensures same { self.new ≡ record self.old { seen = self.new.seen } }
     {
-        if self.seen.front().begins(news.known.front()) {
-            self.seen = news.known.duplicate();
+        if self.known.front().is_front_of(news.known.front()) {
+            self.known = news.known.duplicate();
         }
     }
 
@@ -149,19 +149,19 @@ impl<K: TokenId> Caller<K> {
         let _entries = known.front().len();
         books.count(&mut self.account);
         self.last = known.front().duplicate();
-        self.seen = known.duplicate();
+        self.known = known.duplicate();
     }
 
     /// Shows that a history which goes on from what the caller knows has no entries of the caller
     /// except those of its calls. The books are those of that history. A step of the proof; it
     /// takes `&mut`, as std's ledgers do, and changes nothing.
-    pub fn compare(&mut self, books: &mut CallBooks<K>)
+    pub fn show_settled(&mut self, books: &mut CallBooks<K>)
         ensures settled { (h : History) → books.old ≡ call_counts h
             → IsFront self.old.seen h → IsSettled h self.old }
         ensures books { books.new ≡ books.old }
         ensures caller { self.new ≡ self.old }
     {
-        books.compare(&mut self.account);
+        books.show_count(&mut self.account);
     }
 }
 
@@ -172,10 +172,10 @@ impl<K: TokenId> Caller<K> {
 fn look<K: TokenId>(
     reader: &mut ReadHandle<BoardCopy<K>>,
     account: &Account<K>,
-    seen: &KnownHistory<K>,
+    known: &KnownHistory<K>,
     ask: Ask,
 ) -> Option<(Status, KnownHistory<K>)>
-    ensures front { IfSome result (λ found. IsFront seen.now.history found.1.history) }
+    ensures front { IfSome result (λ found. IsFront known.now.history found.1.history) }
     ensures count { IfSome result (λ found.
         call_count account.now.number found.1.history ≡ account.now.count) }
     ensures legal { IfSome result (λ found. IsLegal K.limits found.1.history) }
@@ -183,7 +183,7 @@ fn look<K: TokenId>(
         reply_of_status found.0 ≡ answer K.limits found.1.history (call_of_ask ask)) }
 {
     let board = reader.enter()?;
-    let longer = seen.longer(board.known())?;
+    let longer = known.longer(board.known())?;
     // The counts are the same, since only this caller makes its calls. The test tells the prover.
     if longer.calls(account.number()) != account.count() {
         return None;
@@ -213,8 +213,8 @@ impl<K: TokenId> Caller<K> {
         ensures same { self.new ≡ record self.old { seen = self.new.seen } }
         ensures unchanged { IfNone result (self.new ≡ self.old) }
     {
-        let (status, known) = look(&mut self.reader, &self.account, &self.seen, ask)?;
-        self.seen = known;
+        let (status, known) = look(&mut self.reader, &self.account, &self.known, ask)?;
+        self.known = known;
         Some(status)
     }
 }

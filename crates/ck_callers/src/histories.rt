@@ -132,8 +132,9 @@ impl<K: HistoryId> Front<K> {
         }
     }
 
-    /// Whether it is no longer than another front, which it then begins. Else the other begins it.
-    pub fn begins(&self, other: &Front<K>) -> bool
+    /// Whether it is a front of the other one, as it is where it is no longer. Else the other is a
+    /// front of it.
+    pub fn is_front_of(&self, other: &Front<K>) -> bool
         ensures shorter { IsTrue result ↔ (entry_count self.now ≤ entry_count other.now) }
         ensures front { IsTrue result → IsFront self.now other.now }
         ensures longer { result ≡ false → IsFront other.now self.now }

@@ -96,7 +96,7 @@ impl<K: TokenId> KnownHistory<K> {
     pub fn covers(&self, other: &KnownHistory<K>) -> bool
         ensures { IsTrue result ↔ Covers self.now other.now.history }
     {
-        self.changed.begins(&other.front) && other.front.begins(&self.front)
+        self.changed.is_front_of(&other.front) && other.front.is_front_of(&self.front)
     }
 
     /// The longer of this history and the other one, where both have the same board. `None` where
@@ -107,7 +107,7 @@ impl<K: TokenId> KnownHistory<K> {
             ≡ board_of K.limits longer.now.history) }
         ensures none { IfNone result (Covers self.now other.now.history → ⊥) }
     {
-        if self.front.begins(&other.front) {
+        if self.front.is_front_of(&other.front) {
             return Some(other);
         }
         if self.covers(other) {

@@ -255,7 +255,7 @@ impl<K: TokenId> CallBooks<K> {
 
     /// Shows that the books have as many calls of the caller as its account. A step of the proof;
     /// it takes `&mut`, as std's ledgers do, and changes nothing.
-    pub(crate) fn compare(&mut self, account: &mut Account<K>)
+    pub(crate) fn show_count(&mut self, account: &mut Account<K>)
         ensures range { (1 ≤ account.old.number) × (account.old.number ≤ 8) }
         ensures same { account.old.count ≡ slice_index self.old (account.old.number - 1) }
         ensures books { self.new ≡ self.old }

@@ -3,8 +3,9 @@
 //! runs of callers through a gate, each in a thread of its own.
 //!
 //! Only ck_shared uses these, for what lies under the lock: `Front`, `Head`, `KnownHistory`,
-//! `CallBooks`, `BoardSlot`, `BoardCopy`, `CallerCount`, `Opened` and `Account`. The types that
-//! they name are public with them: `HistoryId`, `NewHistory`, `CallerLedger` and `NewLedgers`.
+//! `CallBooks`, `BoardSlot`, `BoardCopy`, `CallerCount`, `Opened` and `Account`, and of `Caller`
+//! the methods `account`, `known`, `follow` and `show_settled`. The types that they name are public
+//! with them: `HistoryId`, `NewHistory`, `CallerLedger` and `NewLedgers`.
 #![tactic(auto)]
 
 mod asks;

@@ -151,7 +151,7 @@ fn show_is_front<K: TokenId, W: Wait>(rt: &W, other: &Front<K>, front: &Front<K>
     // The first pass returns: the history under the lock has all entries. No contract says so of
     // another thread's front.
     for _ in rt.forever() {
-        if other.begins(front) {
+        if other.is_front_of(front) {
             return;
         }
     }
@@ -198,7 +198,7 @@ impl<K: TokenId, G: JournaledToken, R: Wait + Drop> Locked<K, G, R> {
         ensures same { self.new ≡ self.old }
         ensures settled { IsSettled self.old.history caller }
     {
-        caller.compare(&mut self.books);
+        caller.show_settled(&mut self.books);
         show_is_front(rt, caller.known().front(), self.known.front());
     }
 

@@ -6,33 +6,33 @@ use Rattle.ck_callers.proofs.callers.Caller.learn.Goals as goal
 
 pub invariant_of-self : goal.invariant_of-self
 invariant_of-self g c =
-    let front : IsFront c.self.inside.seen.history c.news.inside.known.history =
+    let front : IsFront c.self.inside.known.history c.news.inside.known.history =
     subst (λ h. IsFront h c.news.inside.known.history) c.front.ensures
     (subst (IsFront c.front.result.now) c.front-2.ensures
-    (c.begins.ensures.front c.if-begins.true)) in (
+    (c.is_front_of.ensures.front c.if-is_front_of.true)) in (
       subst (λ (k : KnownState). IsFront c.self.inside.last k.history) (sym c.duplicate.ensures)
-          (front_trans c.self.inside.last c.self.inside.seen.history c.news.inside.known.history
+          (front_trans c.self.inside.last c.self.inside.known.history c.news.inside.known.history
           c.self.invariant.0
           front),
       c.self.invariant.1,
     )
 
-pub returns-then-begins-clause-own : goal.returns-then-begins-clause-own
-returns-then-begins-clause-own g c =
-    let front : IsFront c.self.inside.seen.history c.news.inside.known.history =
+pub returns-then-is_front_of-clause-own : goal.returns-then-is_front_of-clause-own
+returns-then-is_front_of-clause-own g c =
+    let front : IsFront c.self.inside.known.history c.news.inside.known.history =
     subst (λ h. IsFront h c.news.inside.known.history) c.front.ensures
     (subst (IsFront c.front.result.now) c.front-2.ensures
-    (c.begins.ensures.front c.if-begins.true)) in
+    (c.is_front_of.ensures.front c.if-is_front_of.true)) in
     rw (← c.self.view_is, c.duplicate.ensures) front
 
-pub returns-then-begins-clause-news : goal.returns-then-begins-clause-news
-returns-then-begins-clause-news g c = rw (← c.news.view_is, c.duplicate.ensures)
+pub returns-then-is_front_of-clause-news : goal.returns-then-is_front_of-clause-news
+returns-then-is_front_of-clause-news g c = rw (← c.news.view_is, c.duplicate.ensures)
     (front_refl c.news.inside.known.history)
 
-pub returns-else-begins-clause-news : goal.returns-else-begins-clause-news
-returns-else-begins-clause-news g c =
-    let longer : IsFront c.news.inside.known.history c.self.inside.seen.history =
+pub returns-else-is_front_of-clause-news : goal.returns-else-is_front_of-clause-news
+returns-else-is_front_of-clause-news g c =
+    let longer : IsFront c.news.inside.known.history c.self.inside.known.history =
     subst (IsFront c.news.inside.known.history) c.front.ensures
     (subst (λ h. IsFront h c.front.result.now) c.front-2.ensures
-    (c.begins.ensures.longer c.if-begins.false)) in
+    (c.is_front_of.ensures.longer c.if-is_front_of.false)) in
     rw (← c.self.view_is, ← c.news.view_is) longer

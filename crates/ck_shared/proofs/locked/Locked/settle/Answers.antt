@@ -7,7 +7,7 @@ returns-clause-settled g c =
     let h = (g.G.JournaledToken.state c.self.inside.token).history in
     let front : IsFront c.args.caller.seen h =
     subst (λ seen. IsFront seen h)
-    (c.front.ensures ∙ c.known.ensures ∙ ap (λ caller. caller.seen) c.compare.ensures.caller)
+    (c.front.ensures ∙ c.known.ensures ∙ ap (λ caller. caller.seen) c.show_settled.ensures.caller)
     (subst (IsFront c.front.result.now) (c.front-2.ensures ∙ c.self.invariant.0.history)
     c.show_is_front.ensures) in
-    rw (← c.self.view_is) (c.compare.ensures.settled h c.self.invariant.0.books front)
+    rw (← c.self.view_is) (c.show_settled.ensures.settled h c.self.invariant.0.books front)

@@ -2,7 +2,7 @@ use Rattle.std.proofs.Common.{◌≡◌, ◌≤◌, arith}
 use Rattle.std.proofs.lemmas.Bool.Decides.{nat_tests}
 use Rattle.ck_journal.specs.Histories.{entry_count}
 use Rattle.ck_callers.proofs.Lengths.{count_is, shorter_begins}
-use Rattle.ck_callers.proofs.histories.Front.begins.Goals as goal
+use Rattle.ck_callers.proofs.histories.Front.is_front_of.Goals as goal
 
 pub returns-clause-shorter : goal.returns-clause-shorter
 returns-clause-shorter g c =

@@ -2,7 +2,7 @@ use Rattle.std.proofs.Common.{sym, subst}
 use Rattle.ck_journal.specs.Fronts.{IsFront}
 use Rattle.ck_callers.specs.Callers.{CallerState}
 use Rattle.ck_callers.proofs.Settling.{settled}
-use Rattle.ck_callers.proofs.callers.Caller.compare.Goals as goal
+use Rattle.ck_callers.proofs.callers.Caller.show_settled.Goals as goal
 
 pub returns-clause-settled : goal.returns-clause-settled
 returns-clause-settled g c = λ h counted front.
@@ -11,7 +11,7 @@ returns-clause-settled g c = λ h counted front.
       number = c.self.inside.account.number;
       count = c.self.inside.account.count;
       last = c.self.inside.last;
-      seen = c.self.inside.seen.history;
-    }) c.args.books.now c.compare.ensures.range.0 c.compare.ensures.range.1 counted
-    c.compare.ensures.same
+      seen = c.self.inside.known.history;
+    }) c.args.books.now c.show_count.ensures.range.0 c.show_count.ensures.range.1 counted
+    c.show_count.ensures.same
     c.self.invariant.0 c.self.invariant.1 known)
