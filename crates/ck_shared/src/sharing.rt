@@ -36,22 +36,22 @@ pub trait CallerWork<R> {
 
 /// All callers do their work, each in a thread of its own. They come back with their outputs, in
 /// their order.
-fn act_together<K: TokenId + Send + Sync, G: Gate<K> + Sync, S: CallerWork<R> + Sync, R: Runtime>(
+fn act_together<K: TokenId + Send + Sync, G: Gate<K> + Sync, W: CallerWork<R> + Sync, R: Runtime>(
     rt: &R,
     alloc: Global,
     gate: &G,
     callers: Vec<Caller<K>>,
-    work: &S,
-) -> Result<Vec<(S::Output, Caller<K>)>, NoMemory>
+    work: &W,
+) -> Result<Vec<(W::Output, Caller<K>)>, NoMemory>
     ensures len { IfOk result (λ done. vec_len done ≡ vec_len callers) }
     ensures done { IfOk result (λ done.
-        AllZip (λ c d. S.holds work.now c d.1 d.0) callers.items done.items) }
+        AllZip (λ c d. W.holds work.now c d.1 d.0) callers.items done.items) }
 {
     let done = thread::map_vec(
         rt,
         callers,
         &|mut caller: Caller<K>|
-            ensures { S.holds work.entry.now caller result.1 result.0 }
+            ensures { W.holds work.entry.now caller result.1 result.0 }
         {
             let output = work.act(rt, gate, &mut caller);
             (output, caller)
@@ -61,9 +61,9 @@ fn act_together<K: TokenId + Send + Sync, G: Gate<K> + Sync, S: CallerWork<R> + 
 }
 
 /// Takes all callers back, and keeps their outputs.
-fn settle_all<K: TokenId, G: JournaledToken, X: Drop, R: Runtime>(
+fn settle_all<K: TokenId, T: JournaledToken, X: Drop, R: Runtime>(
     rt: &R,
-    locked: &mut Locked<K, G, R>,
+    locked: &mut Locked<K, T, R>,
     done: Vec<(X, Caller<K>)>,
     outputs: &mut Vec<X>,
 )
@@ -80,19 +80,19 @@ fn settle_all<K: TokenId, G: JournaledToken, X: Drop, R: Runtime>(
 }
 
 /// All callers do their work on a shared token, and it is taken back with their outputs.
-fn work_on<K: TokenId + Send + Sync, G: JournaledToken + Send, S: CallerWork<R> + Sync, R: Runtime>(
+fn work_on<K: TokenId + Send + Sync, T: JournaledToken + Send, W: CallerWork<R> + Sync, R: Runtime>(
     rt: &R,
     alloc: Global,
-    shared: SharedToken<K, G, R>,
+    shared: SharedToken<K, T, R>,
     callers: Vec<Caller<K>>,
-    work: &S,
-) -> (G, Result<Vec<S::Output>, NoMemory>)
-    ensures limits { (G.state result.0).limits ≡ K.limits }
-    ensures callers { AreCallers K.callers (G.state result.0).history }
-    ensures base { IsFront (start K.base) (G.state result.0).history }
+    work: &W,
+) -> (T, Result<Vec<W::Output>, NoMemory>)
+    ensures limits { (T.state result.0).limits ≡ K.limits }
+    ensures callers { AreCallers K.callers (T.state result.0).history }
+    ensures base { IsFront (start K.base) (T.state result.0).history }
     ensures count { IfOk result.1 (λ outputs. vec_len outputs ≡ vec_len callers) }
     ensures outputs { IfOk result.1 (λ outputs.
-        AllZip (IsOfCaller (S.holds work.now) (G.state result.0).history)
+        AllZip (IsOfCaller (W.holds work.now) (T.state result.0).history)
         callers.items outputs.items) }
 {
     let Ok(mut outputs) = Vec::with_capacity(alloc, callers.len()) else {
@@ -112,19 +112,19 @@ fn work_on<K: TokenId + Send + Sync, G: JournaledToken + Send, S: CallerWork<R> 
 /// As `share`, for a type that stands for the token's history.
 fn share_as<
     K: TokenId + Send + Sync,
-    G: JournaledToken + Send,
-    S: CallerWork<R> + Sync,
+    T: JournaledToken + Send,
+    W: CallerWork<R> + Sync,
     R: Runtime,
 >(
     rt: R,
     alloc: Global,
-    token: &mut G,
+    token: &mut T,
     callers: u32,
     identity: NewIdentity,
-    work: &S,
-) -> Result<Vec<S::Output>, NoMemory>
-    requires history { (G.state token.old).history ≡ start K.base }
-    requires limits { (G.state token.old).limits ≡ K.limits }
+    work: &W,
+) -> Result<Vec<W::Output>, NoMemory>
+    requires history { (T.state token.old).history ≡ start K.base }
+    requires limits { (T.state token.old).limits ≡ K.limits }
     requires callers { (1 ≤ callers) × (callers ≤ 8) × (callers ≡ K.callers) }
 
     // `K` stands for the names of this identity.
@@ -132,21 +132,21 @@ fn share_as<
     requires ledgers { (n : ℕ) → K.ledger n ≡ name_of identity.ledgers n }
 
     // The token, also where there is an error.
-    ensures limits { (G.state token.new).limits ≡ (G.state token.old).limits }
-    ensures front { IsFront (G.state token.old).history (G.state token.new).history }
-    ensures callers { AreCallers callers (G.state token.new).history }
+    ensures limits { (T.state token.new).limits ≡ (T.state token.old).limits }
+    ensures front { IsFront (T.state token.old).history (T.state token.new).history }
+    ensures callers { AreCallers callers (T.state token.new).history }
 
     // The outputs, one for each caller.
     ensures count { IfOk result (λ outputs. vec_len outputs ≡ callers) }
     ensures outputs { IfOk result (λ outputs.
-        AllZip (IsOfCaller (S.holds work.now) (G.state token.new).history)
+        AllZip (IsOfCaller (W.holds work.now) (T.state token.new).history)
         (new_callers K.base callers) outputs.items) }
 {
     let limits = token.limits();
     // The token moves behind the lock. Meanwhile a new one, which takes no memory, stands in its
     // place.
-    let own = mem::replace(token, G::new(alloc, limits));
-    match SharedToken::<K, G, R>::adopt(rt, alloc, own, callers, identity) {
+    let own = mem::replace(token, T::new(alloc, limits));
+    match SharedToken::<K, T, R>::adopt(rt, alloc, own, callers, identity) {
         Ok(
             Ends {
                 token: shared,
@@ -168,26 +168,26 @@ fn share_as<
 /// a thread of its own. The token's journal must have no entries. Gives the outputs in the order of
 /// the callers. Where no thread can be made, the works run one after the other, so works that wait
 /// for one another may hang. Where memory runs out, some callers may have done nothing.
-pub fn share<G: JournaledToken + Send, S: CallerWork<R> + Sync, R: Runtime>(
+pub fn share<T: JournaledToken + Send, W: CallerWork<R> + Sync, R: Runtime>(
     rt: R,
     alloc: Global,
-    token: &mut G,
+    token: &mut T,
     callers: u32,
-    work: &S,
-) -> Result<Vec<S::Output>, NoMemory>
-    requires history { (G.state token.old).history ≡ start (start_of (G.state token.old).history) }
+    work: &W,
+) -> Result<Vec<W::Output>, NoMemory>
+    requires history { (T.state token.old).history ≡ start (start_of (T.state token.old).history) }
     requires callers { (1 ≤ callers) × (callers ≤ 8) }
 
     // The token, also where there is an error.
-    ensures limits { (G.state token.new).limits ≡ (G.state token.old).limits }
-    ensures front { IsFront (G.state token.old).history (G.state token.new).history }
-    ensures callers { AreCallers callers (G.state token.new).history }
+    ensures limits { (T.state token.new).limits ≡ (T.state token.old).limits }
+    ensures front { IsFront (T.state token.old).history (T.state token.new).history }
+    ensures callers { AreCallers callers (T.state token.new).history }
 
     // The outputs, one for each caller.
     ensures count { IfOk result (λ outputs. vec_len outputs ≡ callers) }
     ensures outputs { IfOk result (λ outputs.
-        AllZip (IsOfCaller (S.holds work.now) (G.state token.new).history)
-        (new_callers (start_of (G.state token.old).history) callers) outputs.items) }
+        AllZip (IsOfCaller (W.holds work.now) (T.state token.new).history)
+        (new_callers (start_of (T.state token.old).history) callers) outputs.items) }
 {
-    share_as::<Brand, G, S, R>(rt, alloc, token, callers, NewIdentity::new(), work)
+    share_as::<Brand, T, W, R>(rt, alloc, token, callers, NewIdentity::new(), work)
 }

@@ -9,6 +9,6 @@ ghosts-share_as-K-TokenId g a = record { ledger = name_of a.identity.ledgers; ca
 abbrev pub ghosts-share_as-K-HistoryId : goal.ghosts-share_as-K-HistoryId
 ghosts-share_as-K-HistoryId g a = record {
   book = a.identity.history.seen.book;
-  base = start_of (g.G.JournaledToken.state a.token.now).history;
-  limits = (g.G.JournaledToken.state a.token.now).limits;
+  base = start_of (g.T.JournaledToken.state a.token.now).history;
+  limits = (g.T.JournaledToken.state a.token.now).limits;
 }

@@ -23,18 +23,18 @@ returns-in-Ok-clause-limits g c = c.work_on-own.ensures.limits ∙ sym c.require
 
 pub returns-in-Ok-clause-front : goal.returns-in-Ok-clause-front
 returns-in-Ok-clause-front g c =
-    subst (λ h. IsFront h (g.G.JournaledToken.state c.work_on-own.result.0).history)
+    subst (λ h. IsFront h (g.T.JournaledToken.state c.work_on-own.result.0).history)
     (sym c.requires.history) c.work_on-own.ensures.base
 
 pub returns-in-Ok-clause-callers : goal.returns-in-Ok-clause-callers
 returns-in-Ok-clause-callers g c =
-    subst (λ (n : ℕ). AreCallers n (g.G.JournaledToken.state c.work_on-own.result.0).history)
+    subst (λ (n : ℕ). AreCallers n (g.T.JournaledToken.state c.work_on-own.result.0).history)
     (sym c.requires.callers.2) c.work_on-own.ensures.callers
 
 pub returns-in-Ok-clause-outputs : goal.returns-in-Ok-clause-outputs
 returns-in-Ok-clause-outputs g c =
-    let holds = g.S.CallerWork.holds c.args.work.now in
-    let h = (g.G.JournaledToken.state c.work_on-own.result.0).history in
+    let holds = g.W.CallerWork.holds c.args.work.now in
+    let h = (g.T.JournaledToken.state c.work_on-own.result.0).history in
     subst (λ (callers : List CallerState). IfOk c.work_on-own.result.1
     (λ outputs. AllZip (IsOfCaller holds h) callers (vec_items outputs)))
     c.in-Ok.ensures.callers c.work_on-own.ensures.outputs
