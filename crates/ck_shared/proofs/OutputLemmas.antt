@@ -23,12 +23,13 @@ all_zip_at R (x ∷ xs) (y ∷ ys) same each = (
 -- the outputs of callers that have done their work and are settled
 pub of_callers : {Output : Type 0} (holds : CallerState → CallerState → Output → Type 0)
     (h : History) (callers : List CallerState) (done : List (Output × CallerState))
-    → AllZip (λ c d. holds c d.1 d.0) callers done → All (λ d. IsSettled h d.1) done
+    → AllZip (λ c d. (d.1.number ≡ c.number) × holds c d.1 d.0) callers done
+    → All (λ d. IsSettled h d.1) done
     → AllZip (IsOfCaller holds h) callers (map (λ d. d.0) done)
 of_callers holds h [] [] each settled = tt
 of_callers holds h [] (d ∷ done) each settled = each
 of_callers holds h (c ∷ callers) [] each settled = each
 of_callers holds h (c ∷ callers) (d ∷ done) each settled = (
-  (d.1, All-head (λ e. IsSettled h e.1) d done settled, each.0),
+  (d.1, each.0.0, All-head (λ e. IsSettled h e.1) d done settled, each.0.1),
   of_callers holds h callers done each.1 (All-tail (λ e. IsSettled h e.1) d done settled),
 )

@@ -34,6 +34,20 @@ pub trait CallerWork<R> {
         ensures { holds self.now caller.old caller.new result };
 }
 
+/// Shows to the prover that a caller still has this number. In a run two numbers are compared once.
+fn show_number<K: TokenId, R: Runtime>(rt: &R, caller: &Caller<K>, number: u32)
+    ensures { caller.now.number ≡ number }
+{
+    // The first pass returns: a work is over any `K`, so it can't put another caller in this one's
+    // place. No contract says so.
+    for _ in rt.forever() {
+        if caller.number() == number {
+            return;
+        }
+    }
+    unreachable!()
+}
+
 /// All callers do their work, each in a thread of its own. They come back with their outputs, in
 /// their order.
 fn act_together<K: TokenId + Send + Sync, G: Gate<K> + Sync, W: CallerWork<R> + Sync, R: Runtime>(
@@ -45,15 +59,19 @@ fn act_together<K: TokenId + Send + Sync, G: Gate<K> + Sync, W: CallerWork<R> + 
 ) -> Result<Vec<(W::Output, Caller<K>)>, NoMemory>
     ensures len { IfOk result (λ done. vec_len done ≡ vec_len callers) }
     ensures done { IfOk result (λ done.
-        AllZip (λ c d. W.holds work.now c d.1 d.0) callers.items done.items) }
+        AllZip (λ c d. (d.1.number ≡ c.number) × W.holds work.now c d.1 d.0)
+        callers.items done.items) }
 {
     let done = thread::map_vec(
         rt,
         callers,
         &|mut caller: Caller<K>|
-            ensures { W.holds work.entry.now caller result.1 result.0 }
+            ensures { (result.1.number ≡ caller.number)
+                × W.holds work.entry.now caller result.1 result.0 }
         {
+            let number = caller.number();
             let output = work.act(rt, gate, &mut caller);
+            show_number(rt, &caller, number);
             (output, caller)
         },
     );
