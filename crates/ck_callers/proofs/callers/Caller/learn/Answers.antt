@@ -17,8 +17,8 @@ invariant_of-self g c =
       c.self.invariant.1,
     )
 
-pub returns-then-is_front_of-clause-own : goal.returns-then-is_front_of-clause-own
-returns-then-is_front_of-clause-own g c =
+pub returns-then-is_front_of-clause-front : goal.returns-then-is_front_of-clause-front
+returns-then-is_front_of-clause-front g c =
     let front : IsFront c.self.inside.known.history c.news.inside.known.history =
     subst (λ h. IsFront h c.news.inside.known.history) c.front.ensures
     (subst (IsFront c.front.result.now) c.front-2.ensures
