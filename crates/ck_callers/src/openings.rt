@@ -37,21 +37,7 @@ where
     pub callers: Vec<Caller<K>>,
 }
 
-/// The caller that has this account, with a reader of the board.
-fn caller_of<K: TokenId, R: Wait + Drop>(
-    account: Account<K>,
-    known: &KnownHistory<K>,
-    writer: &WriteHandle<BoardCopy<K>, BoardSlot<K>, R>,
-) -> Result<Caller<K>, NoMemory>
-    requires count { account.count ≡ 0 }
-    requires known { known.now.history ≡ start K.base }
-    ensures { IfOk result (λ caller. caller ≡ new_caller K.base account) }
-{
-    let reader = writer.handle()?;
-    Ok(Caller::new(account, known, reader))
-}
-
-/// The callers that have these accounts.
+/// The callers that have these accounts, each with a reader of the board.
 fn callers_of<K: TokenId, R: Wait + Drop>(
     alloc: Global,
     accounts: Vec<Account<K>>,
@@ -64,33 +50,10 @@ fn callers_of<K: TokenId, R: Wait + Drop>(
 {
     let mut callers = Vec::with_capacity(alloc, accounts.len())?;
     for account in accounts {
-        callers.push(caller_of(account, known, writer)?)?;
+        let reader = writer.handle()?;
+        callers.push(Caller::new(account, known, reader))?;
     }
     Ok(callers)
-}
-
-/// The writer of a board that is of the base, and the callers that have these accounts.
-fn writer_and_callers<K: TokenId, R: Wait + Drop>(
-    rt: R,
-    alloc: Global,
-    board: TokenBoard,
-    callers: u32,
-    accounts: Vec<Account<K>>,
-    known: &KnownHistory<K>,
-) -> Result<(WriteHandle<BoardCopy<K>, BoardSlot<K>, R>, Vec<Caller<K>>), NoMemory>
-    requires board { board ≡ board_of K.limits (start K.base) }
-    requires callers { (1 ≤ callers) × (callers ≤ 8) }
-    requires counts { AreNew accounts.items }
-    requires known { known.now.history ≡ start K.base }
-    ensures published { IfOk result (λ opened. published opened.0 ≡ start K.base) }
-    ensures pending { IfOk result (λ opened. pending opened.0 ≡ []) }
-    ensures callers { IfOk result (λ opened.
-        opened.1.items ≡ map (new_caller K.base) accounts.items) }
-{
-    let (shown, hidden) = BoardCopy::pair(&board, known);
-    let writer = WriteHandle::new(alloc, rt, shown, hidden, callers as usize)?;
-    let callers = callers_of(alloc, accounts, known, &writer)?;
-    Ok((writer, callers))
 }
 
 impl<K: TokenId, R: Wait + Drop> Opened<K, R> {
@@ -129,7 +92,9 @@ impl<K: TokenId, R: Wait + Drop> Opened<K, R> {
         let (head, front) = history.with_name::<K>();
         let known = KnownHistory::new(&front);
         let (books, accounts) = ledgers.with_name::<K>(alloc, callers)?;
-        let (writer, callers) = writer_and_callers(rt, alloc, board, callers, accounts, &known)?;
+        let (shown, hidden) = BoardCopy::pair(&board, &known);
+        let writer = WriteHandle::new(alloc, rt, shown, hidden, callers as usize)?;
+        let callers = callers_of(alloc, accounts, &known, &writer)?;
         Ok(Opened {
             books,
             known,

@@ -5,8 +5,8 @@ use Rattle.ck_callers.specs.Accounts.{AreNew}
 use Rattle.ck_callers.proofs.Opening.{made_next, made_all}
 use Rattle.ck_callers.proofs.openings.callers_of.Goals as goal
 
-pub caller_of-requires-clause-count : goal.caller_of-requires-clause-count
-caller_of-requires-clause-count g c =
+pub new-requires-clause-count : goal.new-requires-clause-count
+new-requires-clause-count g c =
     (subst AreNew c.in-Some.ensures.steps.0 c.loop-account.invariant.2).0
 
 pub loop-account-preserved : goal.loop-account-preserved
@@ -15,7 +15,7 @@ loop-account-preserved g c =
     (vec_items c.loop-account.callers)
     (into_iter_items c.loop-account.account-iterator) c.loop-account.invariant.3 c.in-Some.account
     (into_iter_items c.next.new.self) c.in-Some.ensures.steps.0 c.loop-account.invariant.2
-    c.in_ok-caller_of.field-0 c.in_ok-caller_of.ensures (vec_items c.push.new.self)
+    c.new.result c.new.ensures (vec_items c.push.new.self)
     c.in_ok-push.ensures.items in
     (tt, tt, next.0, next.1)
 
