@@ -80,7 +80,7 @@ so-after limits h before (call.SetPin session old new) p =
     before
 so-after limits h before other p = before
 
-so-initialized : (limits : Ranges) (h : History) → IsSound (start_of h) → IsLegal limits h
+pub so-initialized : (limits : Ranges) (h : History) → IsSound (start_of h) → IsLegal limits h
     → is_some (so_pin h) ≡ is_initialized h
 so-initialized limits (start b) sound legal = sound.so_pin
 so-initialized limits (e ◁ h) sound legal =

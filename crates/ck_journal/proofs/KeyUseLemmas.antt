@@ -4,10 +4,11 @@ use Rattle.std.proofs.Common.{sym, ap, ◌∙◌, subst}
 use Rattle.std.specs.Prelude.{◌==◌, ◌&&◌, ◌||◌, is_none, option_and_then, option_map}
 use Rattle.std.specs.Option.{option_map_or}
 use Rattle.std.proofs.lemmas.Bool.{eqb-true, false≢true, not-false}
+use Rattle.std.proofs.lemmas.Option.{none-some, same_Some}
 use Rattle.ck_types.specs.Checks.{error_if}
 use Rattle.ck_objects.specs.KeyStates.{may_sign, may_verify}
 use Rattle.ck_types.specs.Mechanisms.{hmac_hash, tag_length}
-use Rattle.ck_objects.specs.Records.{state_in, is_key}
+use Rattle.ck_objects.specs.Records.{state_in, is_key, is_set, key_value}
 use Rattle.ck_types.specs.TokenLimits.{Ranges}
 use Rattle.ck_types.specs.declared.errors.RvError.{RvError}
 use Rattle.ck_types.specs.declared.errors.RvError.TheVariants as rv_error
@@ -21,17 +22,20 @@ use Rattle.ck_journal.specs.declared.calls.Entry.{Entry}
 use Rattle.ck_journal.specs.declared.operations.OperationKind.{OperationKind}
 use Rattle.ck_journal.specs.declared.operations.OperationKind.TheVariants as kind
 use Rattle.ck_journal.specs.Answers.{IsLegal, call_error, session_error, operation_error}
-use Rattle.ck_journal.specs.Answers.{piece_error, key_error, usage_error, may_serve}
+use Rattle.ck_journal.specs.Answers.{piece_error, key_error, usage_error, usage_flag, may_serve}
 use Rattle.ck_journal.specs.Answers.{key_state_error, present_key_error, message_error}
 use Rattle.ck_journal.specs.Answers.{hmac_init_error, final_error}
 use Rattle.ck_journal.specs.Histories.{History, start, ◌◁◌, done}
 use Rattle.ck_journal.specs.KeyLaws.{HasKey, signs, verifies, SigningKeysMaySign}
-use Rattle.ck_journal.specs.KeyLaws.{VerifyingKeysMayVerify}
+use Rattle.ck_journal.specs.KeyLaws.{VerifyingKeysMayVerify, OperationsStartWithUsableKeys}
+use Rattle.ck_journal.specs.KeyLaws.{IsUsable}
 use Rattle.ck_journal.specs.Objects.{object_at, object_named, attributes_named}
+use Rattle.ck_journal.specs.Objects.{attributes_or_empty}
 use Rattle.ck_journal.specs.OperationCalls.{OperationStep, Step, operation_step, step_in}
 use Rattle.ck_journal.specs.OperationCalls.{same_kind}
 use Rattle.ck_journal.specs.Operations.{starts, ends, is_active, is_updated, key_in, init_key}
-use Rattle.ck_journal.specs.Operations.{is_initialization, cancels, finishes}
+use Rattle.ck_journal.specs.Operations.{is_initialization, cancels, finishes, hmac_with}
+use Rattle.ck_journal.specs.Operations.{started_computation}
 use Rattle.ck_journal.specs.Sessions.{closes, ends_operations, is_open}
 use Rattle.ck_journal.proofs.LegalLemmas.{by-done, later-passes, last-passes}
 use Rattle.ck_journal.proofs.LegalLemmas.{object-found, session-open, stays-open}
@@ -43,30 +47,46 @@ pub key-named : (found : Option (List Item)) (checks : List Item → Option RvEr
     → option_map_or checks
     (option_and_then (λ items. cond (is_key items) (Some items) None) found)
     (Some rv_error.KeyHandleInvalid) ≡ None
-    → (attributes : List Item) × (found ≡ Some attributes)
+    → (attributes : List Item) × (found ≡ Some attributes) × (is_key attributes ≡ true)
+    × (checks attributes ≡ None)
 key-named None checks e = cc
-key-named (Some attributes) checks e = (attributes, refl)
+key-named (Some attributes) checks e = cases (is_key attributes) refl e
+  where
+    cases : (key : Bool) → is_key attributes ≡ key
+        → option_map_or checks (cond key (Some attributes) None) (Some rv_error.KeyHandleInvalid)
+        ≡ None
+        → (found : List Item) × (Some attributes ≡ Some found) × (is_key found ≡ true)
+        × (checks found ≡ None)
+    cases true k e = (attributes, refl, k, e)
+    cases false k e = cc
+
+-- a start that passes its checks passes that of its key
+pub init-checks_key : (k : OperationKind) (h : History) (session : ℕ) (mechanism : Mechanism)
+    (key : ℕ)
+    → hmac_init_error k h session mechanism key ≡ None → key_error h key (usage_error k) ≡ None
+init-checks_key k h session mechanism key p =
+    last-passes (key_error h key (usage_error k))
+    (later-passes (error_if (is_none (tag_length mechanism)) rv_error.MechanismParamInvalid) _
+    (later-passes (error_if (is_none (hmac_hash mechanism.kind)) rv_error.MechanismInvalid) _
+    (later-passes (error_if (is_active k h session) rv_error.OperationActive) _
+    (later-passes (session_error h session) _ p))))
 
 -- a start that passes its checks names an object
 pub init-named : (k : OperationKind) (h : History) (session : ℕ) (mechanism : Mechanism) (key : ℕ)
     → hmac_init_error k h session mechanism key ≡ None
     → (n : ℕ) × (object_named h key ≡ Some n)
 init-named k h session mechanism key p =
-    let check = last-passes (key_error h key (usage_error k))
-    (later-passes (error_if (is_none (tag_length mechanism)) rv_error.MechanismParamInvalid) _
-    (later-passes (error_if (is_none (hmac_hash mechanism.kind)) rv_error.MechanismInvalid) _
-    (later-passes (error_if (is_active k h session) rv_error.OperationActive) _
-    (later-passes (session_error h session) _ p)))) in
-    let named = key-named (attributes_named h key) (usage_error k) check in
+    let named = key-named (attributes_named h key) (usage_error k)
+    (init-checks_key k h session mechanism key p) in
     let found = found-object (object_at h) (object_named h key) named.0 named.1 in
     (found.0, found.1)
 
 -- the step starts an operation of the kind
-initializes_kind : OperationKind → Option OperationStep → Bool
+pub initializes_kind : OperationKind → Option OperationStep → Bool
 initializes_kind k None = false
 initializes_kind k (Some o) = same_kind o.kind k && is_initialization (Some o.step)
 
-starting-kind : (k : OperationKind) (s : ℕ) (o : Option OperationStep)
+pub starting-kind : (k : OperationKind) (s : ℕ) (o : Option OperationStep)
     → is_initialization (step_in o k s) ≡ true → initializes_kind k o ≡ true
 unfolding initializes_kind
 starting-kind k s None t = cc
@@ -120,18 +140,20 @@ starting-open limits h k s c p t =
     subst (λ j. is_open h j ≡ true) here.0 (init-open limits h c here.1 p)
 
 -- a start of a signing or a verifying
-starting-call : (k : OperationKind) (c : Call) → (k ≡ kind.Digest → ⊥)
+pub starting-call : (k : OperationKind) (c : Call) → (k ≡ kind.Digest → ⊥)
     → initializes_kind k (operation_step c) ≡ true
     → (session : ℕ) × (mechanism : Mechanism) × (key : ℕ) × (init_key (Some c) ≡ Some key)
     × ((limits : Ranges) (h : History)
     → call_error limits h c ≡ hmac_init_error k h session mechanism key)
+    × ((h : History) → started_computation h (Some c)
+    ≡ hmac_with mechanism (key_value (attributes_or_empty h key)))
 unfolding initializes_kind
 starting-call kind.Digest c keyed t = absurd (keyed refl)
 starting-call kind.Sign (call.SignInit session mechanism key) keyed t =
-    (session, mechanism, key, refl, λ limits h. refl)
+    (session, mechanism, key, refl, (λ limits h. refl), (λ h. refl))
 starting-call kind.Sign other keyed t = cc
 starting-call kind.Verify (call.VerifyInit session mechanism key) keyed t =
-    (session, mechanism, key, refl, λ limits h. refl)
+    (session, mechanism, key, refl, (λ limits h. refl), (λ h. refl))
 starting-call kind.Verify other keyed t = cc
 
 started-key : (limits : Ranges) (k : OperationKind) → (k ≡ kind.Digest → ⊥) → (h : History)
@@ -194,6 +216,19 @@ is_active-open limits k (e ◁ h) legal s active =
 
 -- ---- its key serves where the call is answered OK
 
+-- a key that passes the check of its state has one that serves
+serving-state : (k : OperationKind) (attributes : List Item) → key_state_error k attributes ≡ None
+    → (state : KeyState) × (state_in attributes ≡ Some state) × (may_serve k state ≡ true)
+serving-state k attributes p =
+    cases (state_in attributes)
+    (not-false (option_map_or (may_serve k) (state_in attributes) false)
+    (error_if-none _ rv_error.KeyFunctionNotPermitted p))
+  where
+    cases : (o : Option KeyState) → option_map_or (may_serve k) o false ≡ true
+        → (state : KeyState) × (o ≡ Some state) × (may_serve k state ≡ true)
+    cases None t = cc
+    cases (Some state) t = (state, refl, t)
+
 -- an operation that passes these checks has a key that serves
 serving-key : (limits : Ranges) (k : OperationKind) → (k ≡ kind.Digest → ⊥) → (h : History)
     → IsLegal limits h → (s : ℕ) → operation_error k h s ≡ None
@@ -206,23 +241,17 @@ serving-key limits k keyed h legal s active present =
     let key = active-key limits k keyed h legal s is_so in
     let there = object-found (object_at h key.0) (key_state_error k) rv_error.KeyHandleInvalid
     (ap (present_key_error k h) (sym key.1) ∙ present) in
-    let serves = not-false (option_map_or (may_serve k) (state_in there.0) false)
-    (error_if-none _ rv_error.KeyFunctionNotPermitted there.2) in
-    let state = some_state (state_in there.0) serves in
+    let state = serving-state k there.0 there.2 in
     record {
       key = key.0;
       attributes = there.0;
       state = state.0;
+      active = is_so;
       chosen = key.1;
       present = there.1;
       has_state = state.1;
       serves = state.2;
     }
-  where
-    some_state : (o : Option KeyState) → option_map_or (may_serve k) o false ≡ true
-        → (state : KeyState) × (o ≡ Some state) × (may_serve k state ≡ true)
-    some_state None t = cc
-    some_state (Some state) t = (state, refl, t)
 
 message-key : (limits : Ranges) (k : OperationKind) → (k ≡ kind.Digest → ⊥) → (h : History)
     → IsLegal limits h → (s : ℕ) (bytes : List ℕ) → message_error k h s bytes ≡ None
@@ -272,3 +301,60 @@ pub verifying-keys : VerifyingKeysMayVerify
 verifying-keys limits e h good s t =
     by-done limits e h good.legal (λ d. verifies d s ≡ true → HasKey kind.Verify may_verify h s)
     (λ t. cc) (verifies-key limits h good.legal.1 s) t
+
+-- ---- its key may be used where it starts
+
+usable-key : (k : OperationKind) (h : History) (session : ℕ) (mechanism : Mechanism) (key : ℕ)
+    → hmac_init_error k h session mechanism key ≡ None → IsUsable k h key
+usable-key k h session mechanism key p =
+    let there = key-named (attributes_named h key) (usage_error k)
+    (init-checks_key k h session mechanism key p) in
+    let unset = not (is_set there.0 (usage_flag k)) in
+    let flag = or_else-none (error_if unset rv_error.KeyFunctionNotPermitted) _ there.3 in
+    let state = serving-state k there.0 (last-passes (key_state_error k there.0) flag.1) in
+    record {
+      attributes = there.0;
+      state = state.0;
+      named = there.1;
+      of_key = there.2;
+      flag = not-false (is_set there.0 (usage_flag k))
+          (error_if-none unset rv_error.KeyFunctionNotPermitted flag.0);
+      has_state = state.1;
+      serves = state.2;
+    }
+
+-- a digest starts without a key
+digest-keyless : (c : Call) → initializes_kind kind.Digest (operation_step c) ≡ true
+    → init_key (Some c) ≡ None
+unfolding initializes_kind
+digest-keyless (call.SignInit session mechanism key) t = cc
+digest-keyless (call.VerifyInit session mechanism key) t = cc
+digest-keyless other t = refl
+
+keyed-usable : (limits : Ranges) (h : History) (k : OperationKind) → (k ≡ kind.Digest → ⊥)
+    → (handle : ℕ) (c : Call) → call_error limits h c ≡ None
+    → initializes_kind k (operation_step c) ≡ true → init_key (Some c) ≡ Some handle
+    → IsUsable k h handle
+keyed-usable limits h k keyed handle c p t key =
+    let start = starting-call k c keyed t in
+    subst (IsUsable k h) (same_Some start.2 handle (sym start.3 ∙ key))
+    (usable-key k h start.0 start.1 start.2 (sym (start.4 limits h) ∙ p))
+
+start-usable : (limits : Ranges) (h : History) (k : OperationKind) (s handle : ℕ) (c : Call)
+    → call_error limits h c ≡ None → starts (Some c) k s ≡ true → init_key (Some c) ≡ Some handle
+    → IsUsable k h handle
+start-usable limits h kind.Digest s handle c p t key =
+    absurd (none-some handle
+    (sym (digest-keyless c (starting-kind kind.Digest s (operation_step c) t)) ∙ key))
+start-usable limits h kind.Sign s handle c p t key =
+    keyed-usable limits h kind.Sign (λ e. cc) handle c p
+    (starting-kind kind.Sign s (operation_step c) t) key
+start-usable limits h kind.Verify s handle c p t key =
+    keyed-usable limits h kind.Verify (λ e. cc) handle c p
+    (starting-kind kind.Verify s (operation_step c) t) key
+
+pub starts-usable : OperationsStartWithUsableKeys
+starts-usable limits e h good k s handle t key =
+    by-done limits e h good.legal
+    (λ d. starts d k s ≡ true → init_key d ≡ Some handle → IsUsable k h handle) (λ t. cc)
+    (start-usable limits h k s handle) t key

@@ -2,6 +2,7 @@ pub mod BaseLemmas
 pub mod BoardLemmas
 pub mod CallerLemmas
 pub mod Changes
+pub mod CopyLaws
 pub mod CutBases
 pub mod CutLaws
 pub mod CutMoves
@@ -17,6 +18,7 @@ pub mod LegalLemmas
 pub mod LoginMoves
 pub mod NameLemmas
 pub mod NumberTests
+pub mod ObjectLaws
 pub mod ObjectMoves
 pub mod OpenLemmas
 pub mod OperationMoves
@@ -25,11 +27,13 @@ pub mod ProtectionLaws
 pub mod ProtectionLemmas
 pub mod ReturnedHandleLemmas
 pub mod RisingLemmas
+pub mod SearchLaws
 pub mod SearchMoves
 pub mod SegmentLemmas
 pub mod Selections
 pub mod SessionMoves
 pub mod SessionObjectLemmas
+pub mod SignatureLaws
 pub mod ValueLemmas
 pub mod VisibilityLemmas
 pub mod WorkLemmas

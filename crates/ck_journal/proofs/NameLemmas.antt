@@ -19,7 +19,7 @@ use Rattle.ck_journal.specs.Searches.{number_of_handle}
 use Rattle.ck_journal.specs.Sessions.{numbers}
 use Rattle.ck_journal.proofs.LegalLemmas.{creations-bound}
 use Rattle.ck_journal.proofs.ObjectMoves.{object_at-within}
-use Rattle.ck_journal.proofs.Selections.{find-passes}
+use Rattle.ck_journal.proofs.Selections.{find-only, find-passes}
 
 -- the object of a handle has the handle's number
 number_case : (private : Bool) (logins n handle : ℕ) → n < 2 ^ 32
@@ -100,3 +100,18 @@ module _ (limits : Ranges)
       let number = named-number handle n attributes there named in
       let same = named-number handle other.0 found other.2 other.3 in
       same_Some found attributes (sym other.2 ∙ ap (object_at h) (same ∙ sym number) ∙ there)
+
+  -- and that is the object with the handle, where it is there and visible
+  pub found-number : (handle n : ℕ) (attributes : List Item) → object_at h n ≡ Some attributes
+      → names_with (view_of h) attributes handle n ≡ true → object_named h handle ≡ Some n
+  found-number handle n attributes there named =
+      let names = λ (k : ℕ). is_some_with (λ items. names_with (view_of h) items handle k)
+      (object_at h k) in
+      let passes : names n ≡ true =
+      ap (is_some_with (λ items. names_with (view_of h) items handle n)) there ∙ named in
+      let only = λ (j : ℕ) (t : names j ≡ true).
+      let other = some_passes (λ items. names_with (view_of h) items handle j) (object_at h j) t in
+      named-number handle j other.0 other.1 other.2
+      ∙ sym (named-number handle n attributes there named) in
+      find-only names n (creations h) only (λ t. object_at-within h sound n attributes there)
+      ∙ ap (λ b. cond b (Some n) None) passes

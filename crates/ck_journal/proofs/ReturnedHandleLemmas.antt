@@ -32,7 +32,8 @@ use Rattle.ck_journal.specs.Histories.{History, ◌◁◌, done}
 use Rattle.ck_journal.specs.Effects.{effects_of}
 use Rattle.ck_journal.specs.Laws.{IsSoundHistory, IsPrivate, searches, handle_made}
 use Rattle.ck_journal.specs.Laws.{PrivateHandlesAreReturnedToTheUser}
-use Rattle.ck_journal.specs.Objects.{creates, creations, creation_attributes, object_at}
+use Rattle.ck_journal.specs.Objects.{creates, creations, creation_attributes, creation_session}
+use Rattle.ck_journal.specs.Objects.{object_at}
 use Rattle.ck_journal.specs.Objects.{attributes_named, view_of, is_user_in, is_visible}
 use Rattle.ck_journal.specs.Objects.{is_visible_with, handle_with, handle_of}
 use Rattle.ck_journal.specs.Searches.{handles_in, search_rest, remaining_objects}
@@ -66,34 +67,41 @@ placed-user h session attributes p private =
     in-by true false e p = cc
     in-by false user_in e p = cc
 
-creation-user : (limits : Ranges) (h : History) (c : Call) → call_error limits h c ≡ None
+-- a creation passes the check of its placement
+pub creation-placed : (limits : Ranges) (h : History) (c : Call) → call_error limits h c ≡ None
     → creates (Some c) ≡ true
-    → is_set (creation_attributes (Some c) (attributes_named h)) attribute.Private ≡ true
-    → is_user_in h ≡ true
-creation-user limits h (call.CreateObject session template) p t =
-    placed-user h session (created_items template.items)
+    → placement_error h (creation_session (Some c))
+    (placement_of (creation_attributes (Some c) (attributes_named h))) ≡ None
+creation-placed limits h (call.CreateObject session template) p t =
     (or_else-none (placement_error h session (placement_of (created_items template.items))) _
     (later-passes (created_error template.items) _
     (later-passes (session_error h session) _ p))).0
-creation-user limits h (call.GenerateKey session mechanism template random) p t =
-    placed-user h session (generated_items template.items random)
+creation-placed limits h (call.GenerateKey session mechanism template random) p t =
     (or_else-none
     (placement_error h session (placement_of (generated_items template.items random))) _
     (later-passes (generated_error template.items random) _
     (later-passes (parameter_error mechanism) _
     (later-passes (error_if (not (is_key_generator mechanism.kind)) rv_error.MechanismInvalid) _
     (later-passes (session_error h session) _ p))))).0
-creation-user limits h (call.CopyObject session object template) p t =
+creation-placed limits h (call.CopyObject session object template) p t =
     let found = object-found (attributes_named h object) _ rv_error.ObjectHandleInvalid
     (or_else-none (object_error h object _) None (later-passes (session_error h session) _ p)).0 in
     let copied = copied_error (class_of found.0) (protections_of found.0) template.items in
-    let placed = placed-user h session (with_given template.items found.0)
+    let placed =
     (or_else-none (placement_error h session (placement_of (with_given template.items found.0))) _
     (later-passes copied _
     (later-passes (prohibited_error attribute.Copyable found.0) _ found.2))).0 in
-    subst (λ o. is_set (with_given template.items (unwrap_or o [])) attribute.Private ≡ true
-    → is_user_in h ≡ true) (sym found.1) placed
-creation-user limits h other _ t = absurd (false≢true t)
+    subst (λ o. placement_error h session
+    (placement_of (with_given template.items (unwrap_or o []))) ≡ None) (sym found.1) placed
+creation-placed limits h other _ t = absurd (false≢true t)
+
+pub creation-user : (limits : Ranges) (h : History) (c : Call) → call_error limits h c ≡ None
+    → creates (Some c) ≡ true
+    → is_set (creation_attributes (Some c) (attributes_named h)) attribute.Private ≡ true
+    → is_user_in h ≡ true
+creation-user limits h c p t =
+    placed-user h (creation_session (Some c))
+    (creation_attributes (Some c) (attributes_named h)) (creation-placed limits h c p t)
 
 -- its handle is returned
 creation-reply : (limits : Ranges) (h : History) (c : Call) → creates (Some c) ≡ true
@@ -134,7 +142,7 @@ module _ (e : Entry) (h : History) where
       let counted = creations-created e h t in
       handle-number (view_of h) new-attributes handle (suc (creations h)) (omega arith) fresh
 
-only-handle : (given : Body) (own place handle : ℕ) → given ≡ body.Handle own
+pub only-handle : (given : Body) (own place handle : ℕ) → given ≡ body.Handle own
     → slice_get (handle_made given) place ≡ Some handle → own ≡ handle
 only-handle given own place handle is e =
     at place (subst (λ b. slice_get (handle_made b) place ≡ Some handle) is e)
@@ -171,7 +179,7 @@ mapped-at f None handle e = cc
 mapped-at f (Some m) handle e = (m, refl, same_Some (f m) handle e)
 
 -- each handle that is returned is that of a visible object
-found-visible : (h : History) (session max place handle : ℕ)
+pub found-visible : (h : History) (session max place handle : ℕ)
     → slice_get (map (handle_of h) (take max (search_rest h session))) place ≡ Some handle
     → (m : ℕ) × (is_visible h m ≡ true) × (handle_of h m ≡ handle)
 found-visible h session max place handle e =
@@ -182,6 +190,12 @@ found-visible h session max place handle e =
           (taken-at max (search_rest h session) place found.0 found.1),
       found.2,
     )
+
+-- an entry that returns what a search finds
+pub found-call : (d : Option Call) → searches d ≡ true
+    → (session : ℕ) × (max : ℕ) × (d ≡ Some (call.FindObjects session max))
+found-call (Some (call.FindObjects session max)) t = (session, max, refl)
+found-call other t = absurd (false≢true t)
 
 -- ---- an object's handle has its number
 
@@ -228,11 +242,6 @@ module _ (limits : Ranges) (e : Entry) (h : History) (good : IsSoundHistory limi
       (creation-user limits h did.0 (passed-done limits e h good.legal did.0 did.1) created
       (subst (λ items. is_set items attribute.Private ≡ true)
       (alike ∙ ap (λ d. creation_attributes d (attributes_named h)) did.1) private.private))
-
-  found-call : (d : Option Call) → searches d ≡ true
-      → (session : ℕ) × (max : ℕ) × (d ≡ Some (call.FindObjects session max))
-  found-call (Some (call.FindObjects session max)) t = (session, max, refl)
-  found-call other t = absurd (false≢true t)
 
   found-login : searches (done e) ≡ true
       → slice_get (handles_in e.reply.body) place ≡ Some handle → login h ≡ Some user.User
