@@ -6,6 +6,7 @@ pub mod CutBases
 pub mod CutLaws
 pub mod CutMoves
 pub mod CutReadings
+pub mod EndLaws
 pub mod EntryLemmas
 pub mod EventLemmas
 pub mod FrontLemmas

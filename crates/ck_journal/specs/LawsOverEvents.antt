@@ -1,20 +1,23 @@
 -- What is so between a front and every later one, whatever calls are answered in between, and
 -- however often the journal is cut: laws of handles, of what protects keys and of private objects
 -- and keys
-use Rattle.std.specs.Prelude.{◌≡◌, ℕ, suc, Bool, true, false, List, [], ◌∷◌, Some, ◌==◌, ◌&&◌}
+use Rattle.std.specs.Prelude.{◌≡◌, ℕ, suc, ◌≤◌, Bool, true, false, List, [], ◌∷◌, Some, None}
+use Rattle.std.specs.Prelude.{◌==◌, ◌&&◌}
 use Rattle.ck_objects.specs.Records.{is_set}
 use Rattle.ck_types.specs.TokenLimits.{Ranges}
 use Rattle.ck_objects.specs.declared.attributes.Attribute.TheVariants as attribute
 use Rattle.ck_objects.specs.declared.items.Item.{Item}
 use Rattle.ck_types.specs.declared.users.UserType.TheVariants as user
+use Rattle.ck_journal.specs.declared.calls.Call.TheVariants as call
 use Rattle.ck_journal.specs.declared.calls.Entry.{Entry}
 use Rattle.ck_journal.specs.declared.operations.OperationKind.{OperationKind}
 use Rattle.ck_journal.specs.declared.replies.Body.TheVariants as body
 use Rattle.ck_journal.specs.Events.{Event, answered, cut, after_events, AreSoundEvents}
 use Rattle.ck_journal.specs.Histories.{History, ◌◁◌, done}
 use Rattle.ck_journal.specs.KeyLaws.{is_sensitive_key, is_extractable}
-use Rattle.ck_journal.specs.Laws.{IsPrivate}
-use Rattle.ck_journal.specs.Objects.{creates, creations, object_at, names_with, view_of}
+use Rattle.ck_journal.specs.Laws.{IsPrivate, IsSoundHistory}
+use Rattle.ck_journal.specs.Objects.{creates, creations, object_at, object_named, names_with}
+use Rattle.ck_journal.specs.Objects.{view_of}
 use Rattle.ck_journal.specs.Operations.{is_active, key_in}
 use Rattle.ck_journal.specs.Sessions.{opens, login}
 
@@ -68,6 +71,22 @@ AreGivenOnce Gives =
 abbrev pub ObjectHandlesAreGivenOnce : Type 0
 ObjectHandlesAreGivenOnce = AreGivenOnce GivesObject
 
+-- ---- objects that have ended
+
+-- what was created and isn't there at a front isn't there at any later one
+abbrev pub EndedObjectsStayEnded : Type 0
+EndedObjectsStayEnded =
+    (limits : Ranges) (h : History) (later : List Event) → AreSoundEvents limits h later
+    → (n : ℕ) → n ≤ creations h → object_at h n ≡ None → object_at (after_events h later) n ≡ None
+
+-- the handle of a C_DestroyObject that was answered OK never names an object again
+abbrev pub DestroyedHandlesNameNothing : Type 0
+DestroyedHandlesNameNothing =
+    (limits : Ranges) (h : History) (e : Entry) (later : List Event)
+    → AreSoundEvents limits (e ◁ h) later → (session handle : ℕ)
+    → done e ≡ Some (call.DestroyObject session handle)
+    → object_named (after_events (e ◁ h) later) handle ≡ None
+
 -- ---- handles of sessions
 
 -- the entry opens a session and returns this handle
@@ -78,6 +97,12 @@ pub record GivesSession (e : Entry) (handle : ℕ) : Type 0 where
 -- no two sessions are given one handle
 abbrev pub SessionHandlesAreGivenOnce : Type 0
 SessionHandlesAreGivenOnce = AreGivenOnce GivesSession
+
+-- no object and no session is given handle 0, which is no handle (CK_INVALID_HANDLE)
+abbrev pub HandlesAreNotZero : Type 0
+HandlesAreNotZero =
+    (limits : Ranges) (e : Entry) (h : History) → IsSoundHistory limits (e ◁ h)
+    → (GivesObject e 0 → ⊥) × (GivesSession e 0 → ⊥)
 
 -- ---- what protects keys
 

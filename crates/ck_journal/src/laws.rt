@@ -21,6 +21,9 @@ ghost use Rattle.ck_journal.specs.Laws.{
 };
 ghost use Rattle.ck_journal.specs.LawsOverEvents.{
   AlwaysSensitiveIsTrue,
+  DestroyedHandlesNameNothing,
+  EndedObjectsStayEnded,
+  HandlesAreNotZero,
   HandlesNameOneObject,
   NeverExtractableIsTrue,
   NewObjectsHaveNewHandles,
@@ -50,6 +53,21 @@ pub fn object_handles_are_given_once()
 /// No two sessions are given one handle.
 pub fn session_handles_are_given_once()
     ensures { SessionHandlesAreGivenOnce }
+{}
+
+/// No object and no session is given handle 0.
+pub fn handles_are_not_zero()
+    ensures { HandlesAreNotZero }
+{}
+
+/// An object that has ended doesn't come back.
+pub fn ended_objects_stay_ended()
+    ensures { EndedObjectsStayEnded }
+{}
+
+/// The handle of a C_DestroyObject that was answered CKR_OK never names an object again.
+pub fn destroyed_handles_name_nothing()
+    ensures { DestroyedHandlesNameNothing }
 {}
 
 /// A login is answered CKR_OK only with the user's PIN, and only where the user isn't locked.
