@@ -434,17 +434,23 @@ base_tries-bound : (u : UserType) (b : Base) → IsSound b → base_tries u b �
 base_tries-bound user.So b sound = sound.so_tries
 base_tries-bound user.User b sound = sound.user_tries
 
+-- a wrong try is one of a user who isn't locked
+pub wrong_try-unlocked : (limits : Ranges) (e : Entry) (h : History) → IsLegal limits (e ◁ h)
+    → (u : UserType) → is_about u h (wrong_try e) ≡ true → is_locked u h ≡ false
+wrong_try-unlocked limits e h legal u w =
+    let tried = wrong_try-about (is_wrong_pin e.reply.rv) u h e.call w in
+    unlocked limits h e.call u
+    (wrong_answer limits h e.call
+    (subst (λ (reply : Reply). is_wrong_pin reply.rv ≡ true) legal.0 tried.0))
+    (is_user-some u (about h (Some e.call)) tried.1)
+
 pub tries-bound : (limits : Ranges) (h : History) → IsSound (start_of h) → IsLegal limits h
     → (u : UserType) → tries u h ≤ 3
 tries-bound limits (start b) sound legal u = base_tries-bound u b sound
 tries-bound limits (e ◁ h) sound legal u =
     tries-below (resets u h (done e)) (is_about u h (wrong_try e)) (tries u h)
     (tries-bound limits h sound legal.1 u)
-    (λ w. let tried = wrong_try-about (is_wrong_pin e.reply.rv) u h e.call w in
-    unlocked limits h e.call u
-    (wrong_answer limits h e.call
-    (subst (λ (reply : Reply). is_wrong_pin reply.rv ≡ true) legal.0 tried.0))
-    (is_user-some u (about h (Some e.call)) tried.1))
+    (wrong_try-unlocked limits e h legal u)
 
 -- ---- operations of sessions
 

@@ -15,6 +15,7 @@ pub mod KeyLoginLemmas
 pub mod KeyUseLemmas
 pub mod LaterLemmas
 pub mod LegalLemmas
+pub mod LockLaws
 pub mod LoginMoves
 pub mod NameLemmas
 pub mod NumberTests

@@ -19,6 +19,7 @@ use Rattle.ck_journal.specs.Laws.{IsPrivate, IsSoundHistory}
 use Rattle.ck_journal.specs.Objects.{creates, creations, object_at, object_named, names_with}
 use Rattle.ck_journal.specs.Objects.{view_of}
 use Rattle.ck_journal.specs.Operations.{is_active, key_in}
+use Rattle.ck_journal.specs.Pins.{is_initialized, is_locked}
 use Rattle.ck_journal.specs.Sessions.{opens, login}
 
 -- ---- handles of objects
@@ -155,3 +156,13 @@ PrivateKeysServeTheUser =
     → IsPrivate h n → is_active k (after_events h later) session ≡ true
     → key_in k (after_events h later) session ≡ Some n
     → login (after_events h later) ≡ Some user.User
+
+-- ---- locks
+
+-- a locked security officer stays locked. A sound base that isn't initialized may have three wrong
+-- tries, which the first initialization sets back to 0: hence the premise.
+abbrev pub LockedOfficersStayLocked : Type 0
+LockedOfficersStayLocked =
+    (limits : Ranges) (h : History) (later : List Event) → AreSoundEvents limits h later
+    → is_initialized h ≡ true → is_locked user.So h ≡ true
+    → is_locked user.So (after_events h later) ≡ true

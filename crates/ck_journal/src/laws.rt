@@ -25,6 +25,7 @@ ghost use Rattle.ck_journal.specs.LawsOverEvents.{
   EndedObjectsStayEnded,
   HandlesAreNotZero,
   HandlesNameOneObject,
+  LockedOfficersStayLocked,
   NeverExtractableIsTrue,
   NewObjectsHaveNewHandles,
   ObjectHandlesAreGivenOnce,
@@ -78,6 +79,11 @@ pub fn logins_need_the_pin()
 /// No user has more than three wrong tries.
 pub fn tries_are_at_most_three()
     ensures { TriesAreAtMostThree }
+{}
+
+/// A locked security officer of an initialized token stays locked.
+pub fn locked_officers_stay_locked()
+    ensures { LockedOfficersStayLocked }
 {}
 
 /// As long as a session object hasn't ended, its session is open.
