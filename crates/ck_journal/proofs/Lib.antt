@@ -1,3 +1,4 @@
+pub mod AttributeLaws
 pub mod BaseLemmas
 pub mod BoardLemmas
 pub mod CallerLemmas

@@ -25,15 +25,19 @@ ghost use Rattle.ck_journal.specs.LawsOverEvents.{
   EndedObjectsStayEnded,
   HandlesAreNotZero,
   HandlesNameOneObject,
+  HiddenStays,
+  KeyStatesNeverGoBack,
   LockedOfficersStayLocked,
   NeverExtractableIsTrue,
   NewObjectsHaveNewHandles,
   ObjectHandlesAreGivenOnce,
   PrivateKeysServeTheUser,
   PrivateStays,
+  ReadOnlyAttributesStay,
   SensitiveStays,
   SessionHandlesAreGivenOnce,
   UnextractableStays,
+  UnmodifiableObjectsStay,
 };
 
 /// A handle names at most one object, at one front and over all.
@@ -178,4 +182,26 @@ pub fn always_sensitive_is_true()
 /// was extractable at no earlier front.
 pub fn never_extractable_is_true()
     ensures { NeverExtractableIsTrue }
+{}
+
+/// What may not be revealed at a front may not be revealed at any later one.
+pub fn hidden_stays()
+    ensures { HiddenStays }
+{}
+
+/// A key that is deactivated, compromised or destroyed isn't active again, nor does any other key
+/// go back to an earlier phase.
+pub fn key_states_never_go_back()
+    ensures { KeyStatesNeverGoBack }
+{}
+
+/// The class of an object, where it is kept, and what may be done with it never change; nor do the
+/// type of a key, its value, and how it came to be.
+pub fn read_only_attributes_stay()
+    ensures { ReadOnlyAttributesStay }
+{}
+
+/// Of an object whose CKA_MODIFIABLE is false nothing changes, except the state of a key.
+pub fn unmodifiable_objects_stay()
+    ensures { UnmodifiableObjectsStay }
 {}
