@@ -13,6 +13,7 @@ use Rattle.ck_journal.specs.Laws.{IsSoundHistory}
 use Rattle.ck_journal.specs.LawsOverEvents.{HandlesNameOneObject, Names, IsNotCreated}
 use Rattle.ck_journal.specs.LawsOverEvents.{NewObjectsHaveNewHandles, ObjectHandlesAreGivenOnce}
 use Rattle.ck_journal.specs.LawsOverEvents.{SessionHandlesAreGivenOnce, GivesObject, GivesSession}
+use Rattle.ck_journal.specs.LawsOverEvents.{HandlesAreNotZero}
 use Rattle.ck_journal.specs.Objects.{creates, creations}
 use Rattle.ck_journal.specs.Searches.{number_of_handle}
 use Rattle.ck_journal.specs.Sessions.{openings}
@@ -118,3 +119,11 @@ session_handles-once limits h first later second sound handle one other =
     let rises = openings-rise opened later in
     let first_count : openings opened ≡ suc (openings h) = a.1 in
     omega (arith, a.0, b.0, a.1, rises)
+
+-- ---- 0 is no handle
+
+pub handles-not_zero : HandlesAreNotZero
+handles-not_zero limits e h good = (
+  λ gives. let object = given-object limits e h good 0 gives in omega (arith, object.0),
+  λ gives. let session = given-session limits e h good.legal 0 gives in omega (arith, session.0),
+)

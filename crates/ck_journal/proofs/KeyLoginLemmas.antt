@@ -30,6 +30,7 @@ use Rattle.ck_journal.specs.Operations.{starts, ends, is_active, key_in, init_ke
 use Rattle.ck_journal.specs.Operations.{cancels, finishes}
 use Rattle.ck_journal.specs.Sessions.{is_open, login, login_after}
 use Rattle.ck_journal.specs.Sessions.{logs_out, closes}
+use Rattle.ck_journal.proofs.AttributeLaws.{private-stays}
 use Rattle.ck_journal.proofs.EventLemmas.{events-before, sound-after}
 use Rattle.ck_journal.proofs.LaterLemmas.{just_before, was_there, creations-next}
 use Rattle.ck_journal.proofs.KeyUseLemmas.{is_active-open}
@@ -37,7 +38,6 @@ use Rattle.ck_journal.proofs.LegalLemmas.{by-done, last-passes, later-passes, pr
 use Rattle.ck_journal.proofs.LoginMoves.{login-open}
 use Rattle.ck_journal.proofs.NameLemmas.{named-passes}
 use Rattle.ck_journal.proofs.ObjectMoves.{object_at-within}
-use Rattle.ck_journal.proofs.ProtectionLaws.{private-stays}
 use Rattle.ck_journal.proofs.SessionMoves.{some-open}
 use Rattle.ck_journal.proofs.VisibilityLemmas.{visible-login, named-login}
 

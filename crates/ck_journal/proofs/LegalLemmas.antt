@@ -14,6 +14,7 @@ use Rattle.ck_objects.specs.KeyStates.{state_of_number}
 use Rattle.ck_types.specs.Mechanisms.{is_key_generator}
 use Rattle.ck_objects.specs.Records.{created_items, generated_items, with_given, with_state, is_set}
 use Rattle.ck_objects.specs.Records.{protections_of, placement_of, copied_error, changed_error}
+use Rattle.ck_objects.specs.Records.{is_key, state_in}
 use Rattle.ck_objects.specs.Templates.{class_of, created_error, generated_error}
 use Rattle.ck_types.specs.TokenLimits.{Ranges, AreInRange}
 use Rattle.ck_types.specs.Users.{user_of}
@@ -43,7 +44,8 @@ use Rattle.ck_journal.specs.Answers.{logged_in_error, read_only_error, logins_er
 use Rattle.ck_journal.specs.Answers.{prohibited_error, placement_error, read_only_session_error}
 use Rattle.ck_journal.specs.Answers.{creations_error, too_small, ok, bytes_reply, call_error}
 use Rattle.ck_journal.specs.Answers.{allowed_reply, answer, IsLegal, is_so_state, tag_in}
-use Rattle.ck_journal.specs.Answers.{parameter_error}
+use Rattle.ck_journal.specs.Answers.{parameter_error, key_error, transition_error}
+use Rattle.ck_journal.specs.Answers.{state_change_error}
 use Rattle.ck_journal.specs.Bases.{base_tries, IsSound}
 use Rattle.ck_journal.specs.Histories.{History, start, ◌◁◌, start_of, done, wrong_try, is_ok}
 use Rattle.ck_journal.specs.Histories.{is_wrong_pin}
@@ -132,6 +134,22 @@ pub object-found : (found : Option (List Item)) (checks : List Item → Option R
     → (attributes : List Item) × (found ≡ Some attributes) × (checks attributes ≡ None)
 object-found None checks code e = cc
 object-found (Some attributes) checks code e = (attributes, refl, e)
+
+-- likewise the checks of a key
+key-found : (found : Option (List Item)) (checks : List Item → Option RvError)
+    → option_map_or checks
+    (option_and_then (λ items. cond (is_key items) (Some items) None) found)
+    (Some rv_error.KeyHandleInvalid) ≡ None
+    → (attributes : List Item) × (found ≡ Some attributes) × (checks attributes ≡ None)
+key-found None checks e = cc
+key-found (Some attributes) checks e = cases (is_key attributes) e
+  where
+    cases : (key : Bool)
+        → option_map_or checks (cond key (Some attributes) None) (Some rv_error.KeyHandleInvalid)
+        ≡ None
+        → (found : List Item) × (Some attributes ≡ Some found) × (checks found ≡ None)
+    cases true e = (attributes, refl, e)
+    cases false e = cc
 
 -- ---- counts
 
@@ -434,17 +452,23 @@ base_tries-bound : (u : UserType) (b : Base) → IsSound b → base_tries u b �
 base_tries-bound user.So b sound = sound.so_tries
 base_tries-bound user.User b sound = sound.user_tries
 
+-- a wrong try is one of a user who isn't locked
+pub wrong_try-unlocked : (limits : Ranges) (e : Entry) (h : History) → IsLegal limits (e ◁ h)
+    → (u : UserType) → is_about u h (wrong_try e) ≡ true → is_locked u h ≡ false
+wrong_try-unlocked limits e h legal u w =
+    let tried = wrong_try-about (is_wrong_pin e.reply.rv) u h e.call w in
+    unlocked limits h e.call u
+    (wrong_answer limits h e.call
+    (subst (λ (reply : Reply). is_wrong_pin reply.rv ≡ true) legal.0 tried.0))
+    (is_user-some u (about h (Some e.call)) tried.1)
+
 pub tries-bound : (limits : Ranges) (h : History) → IsSound (start_of h) → IsLegal limits h
     → (u : UserType) → tries u h ≤ 3
 tries-bound limits (start b) sound legal u = base_tries-bound u b sound
 tries-bound limits (e ◁ h) sound legal u =
     tries-below (resets u h (done e)) (is_about u h (wrong_try e)) (tries u h)
     (tries-bound limits h sound legal.1 u)
-    (λ w. let tried = wrong_try-about (is_wrong_pin e.reply.rv) u h e.call w in
-    unlocked limits h e.call u
-    (wrong_answer limits h e.call
-    (subst (λ (reply : Reply). is_wrong_pin reply.rv ≡ true) legal.0 tried.0))
-    (is_user-some u (about h (Some e.call)) tried.1))
+    (wrong_try-unlocked limits e h legal u)
 
 -- ---- operations of sessions
 
@@ -538,18 +562,22 @@ not-created true false fresh later b n e = e
 not-created false same fresh later b n e = e
 
 -- it is as it was, or changed by a template that passes the checks of the object that it names, or
--- in another state
+-- in another state, to which the key that is named may be taken
 module _ (limits : Ranges) (h : History) (n : ℕ) (a : List Item) (P : List Item → Type 0)
     (same : P a)
     (changed : (object : ℕ) (found template : List Item) → attributes_named h object ≡ Some found
-    → names_with (view_of h) a object n ≡ true
+    → names_with (view_of h) a object n ≡ true → is_set found attribute.Modifiable ≡ true
     → changed_error (class_of found) (protections_of found) template ≡ None
     → P (with_given template a))
-    (other : (s : KeyState) → P (with_state s a))
+    (moved : (key : ℕ) (found : List Item) (s : KeyState) → attributes_named h key ≡ Some found
+    → names_with (view_of h) a key n ≡ true → transition_error (state_in found) (Some s) ≡ None
+    → P (with_state s a))
   where
-    state-keeps : (s : Option KeyState) → P (in_state s a)
-    state-keeps None = same
-    state-keeps (Some s) = other s
+    state-keeps : (key : ℕ) (found : List Item) → attributes_named h key ≡ Some found
+        → names_with (view_of h) a key n ≡ true → (s : Option KeyState)
+        → transition_error (state_in found) s ≡ None → P (in_state s a)
+    state-keeps key found is named None fine = same
+    state-keeps key found is named (Some s) fine = moved key found s is named fine
 
     call-keeps : (c : Call) → call_error limits h c ≡ None → (creator : ℕ) (b : List Item)
         → object_after (Some c) (view_of h) n creator a ≡ Some b → P b
@@ -558,15 +586,21 @@ module _ (limits : Ranges) (h : History) (n : ℕ) (a : List Item) (P : List Ite
     call-keeps (call.SetAttributeValue session object template) p creator b e =
         let found = object-found (attributes_named h object) _ rv_error.ObjectHandleInvalid
         (last-passes (object_error h object _) (later-passes (session_error h session) _ p)) in
+        let may = or_else-none (prohibited_error attribute.Modifiable found.0) _
+        (later-passes (read_only_session_error h session (placement_of found.0)) _ found.2) in
+        let modifiable = not-false (is_set found.0 attribute.Modifiable)
+        (error_if-none _ rv_error.ActionProhibited may.0) in
         let passes = last-passes
-        (changed_error (class_of found.0) (protections_of found.0) template.items)
-        (later-passes (prohibited_error attribute.Modifiable found.0) _
-        (later-passes (read_only_session_error h session (placement_of found.0)) _ found.2)) in
+        (changed_error (class_of found.0) (protections_of found.0) template.items) may.1 in
         where-named P (names_with (view_of h) a object n) (with_given template.items a) a b
-        (λ named. changed object found.0 template.items found.1 named passes) same e
+        (λ named. changed object found.0 template.items found.1 named modifiable passes) same e
     call-keeps (call.SetKeyState session key number) p creator b e =
+        let found = key-found (attributes_named h key) (state_change_error h session number)
+        (last-passes (key_error h key _) (later-passes (session_error h session) _ p)) in
+        let passes = last-passes (transition_error (state_in found.0) (state_of_number number))
+        (later-passes (read_only_session_error h session (placement_of found.0)) _ found.2) in
         where-named P (names_with (view_of h) a key n) (in_state (state_of_number number) a) a b
-        (λ named. state-keeps (state_of_number number)) same e
+        (λ named. state-keeps key found.0 found.1 named (state_of_number number) passes) same e
     call-keeps (call.InitToken pin) p creator b e = cc
     call-keeps (call.CloseSession session) p creator b e =
         unless-ends P _ a b same e
@@ -576,9 +610,9 @@ module _ (limits : Ranges) (h : History) (n : ℕ) (a : List Item) (P : List Ite
         unless-ends P _ a b same e
     call-keeps other_call p creator b e = unless-ends P false a b same e
 
-    pub object_stays : (e : Entry) → IsSound (start_of h) → IsLegal limits (e ◁ h)
+    pub object_moves : (e : Entry) → IsSound (start_of h) → IsLegal limits (e ◁ h)
         → (b : List Item) → object_at h n ≡ Some a → object_at (e ◁ h) n ≡ Some b → P b
-    object_stays e sound legal b was now =
+    object_moves e sound legal b was now =
         let within = object_at-within h sound n a was in
         let older = ne_eqb n (suc (creations h)) (λ same. omega arith) in
         let old = not-created (creates (done e)) (n == suc (creations h)) _ _ b older now in
@@ -588,6 +622,22 @@ module _ (limits : Ranges) (h : History) (n : ℕ) (a : List Item) (P : List Ite
         (subst
         (λ o. option_and_then (object_after (done e) (view_of h) n (session_of h n)) o ≡ Some b)
         was old)
+
+-- the same of what stays in any other state, and in an object that may not be changed
+module _ (limits : Ranges) (h : History) (n : ℕ) (a : List Item) (P : List Item → Type 0)
+    (same : P a)
+    (changed : (object : ℕ) (found template : List Item) → attributes_named h object ≡ Some found
+    → names_with (view_of h) a object n ≡ true
+    → changed_error (class_of found) (protections_of found) template ≡ None
+    → P (with_given template a))
+    (other : (s : KeyState) → P (with_state s a))
+  where
+    pub object_stays : (e : Entry) → IsSound (start_of h) → IsLegal limits (e ◁ h)
+        → (b : List Item) → object_at h n ≡ Some a → object_at (e ◁ h) n ≡ Some b → P b
+    object_stays =
+        object_moves limits h n a P same
+        (λ object found template is named modifiable. changed object found template is named)
+        (λ key found s is named fine. other s)
 
 -- ---- an object keeps CKA_TOKEN and CKA_PRIVATE
 

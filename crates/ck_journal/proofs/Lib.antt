@@ -1,3 +1,4 @@
+pub mod AttributeLaws
 pub mod BaseLemmas
 pub mod BoardLemmas
 pub mod CallerLemmas
@@ -7,6 +8,7 @@ pub mod CutBases
 pub mod CutLaws
 pub mod CutMoves
 pub mod CutReadings
+pub mod EndLaws
 pub mod EntryLemmas
 pub mod EventLemmas
 pub mod FrontLemmas
@@ -15,6 +17,7 @@ pub mod KeyLoginLemmas
 pub mod KeyUseLemmas
 pub mod LaterLemmas
 pub mod LegalLemmas
+pub mod LockLaws
 pub mod LoginMoves
 pub mod NameLemmas
 pub mod NumberTests

@@ -1,5 +1,5 @@
 -- What protects a key, over calls and cuts and in copies
-use Rattle.std.proofs.Common.{◌≡◌, ℕ, true, List, [], Some, refl, sym, ap, ◌∙◌, subst}
+use Rattle.std.proofs.Common.{◌≡◌, ℕ, true, List, [], Some, sym, ap, ◌∙◌, subst}
 use Rattle.std.specs.Prelude.{unwrap_or}
 use Rattle.std.proofs.lemmas.Option.{same_Some}
 use Rattle.ck_objects.specs.Records.{with_given, is_set}
@@ -14,12 +14,12 @@ use Rattle.ck_journal.specs.Histories.{History, ◌◁◌}
 use Rattle.ck_journal.specs.KeyLaws.{Copies, CopiesStaySensitive, CopiesStayUnextractable}
 use Rattle.ck_journal.specs.KeyLaws.{CopiesStayPrivate}
 use Rattle.ck_journal.specs.Laws.{IsSoundHistory}
-use Rattle.ck_journal.specs.LawsOverEvents.{SensitiveStays, UnextractableStays, PrivateStays}
+use Rattle.ck_journal.specs.LawsOverEvents.{SensitiveStays, UnextractableStays}
 use Rattle.ck_journal.specs.LawsOverEvents.{AlwaysSensitiveIsTrue, NeverExtractableIsTrue}
 use Rattle.ck_journal.specs.Objects.{creates, creation_attributes, object_at}
 use Rattle.ck_journal.specs.Objects.{attributes_named}
 use Rattle.ck_journal.proofs.EventLemmas.{events-keep}
-use Rattle.ck_journal.proofs.LegalLemmas.{passed-done, private_stays}
+use Rattle.ck_journal.proofs.LegalLemmas.{passed-done}
 use Rattle.ck_journal.proofs.ObjectMoves.{object_at-created}
 use Rattle.ck_journal.proofs.ProtectionLemmas.{keeps-itself, protection_stays, copy-found}
 use Rattle.ck_journal.proofs.ProtectionLemmas.{object-protected}
@@ -34,7 +34,7 @@ keeps-both a b c first later = record {
   never_extractable = later.never_extractable ∙ first.never_extractable;
 }
 
-fronts-keep : (limits : Ranges) (h : History) (later : List Event)
+pub fronts-keep : (limits : Ranges) (h : History) (later : List Event)
     → AreSoundEvents limits h later → (n : ℕ) (a b : List Item)
     → object_at h n ≡ Some a → object_at (after_events h later) n ≡ Some b → KeepsProtection a b
 fronts-keep limits =
@@ -48,12 +48,6 @@ sensitive-stays limits h later sound n a b was now =
 pub unextractable-stays : UnextractableStays
 unextractable-stays limits h later sound n a b was now =
     (fronts-keep limits h later sound n a b was now).extractable
-
-pub private-stays : PrivateStays
-private-stays limits =
-    events-keep limits (λ a b. is_set b attribute.Private ≡ is_set a attribute.Private)
-    (λ a. refl) (λ a b c first then. then ∙ first)
-    (λ e h good. private_stays limits e h good.sound good.legal)
 
 -- ---- since the creation
 

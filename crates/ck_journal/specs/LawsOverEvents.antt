@@ -1,21 +1,31 @@
 -- What is so between a front and every later one, whatever calls are answered in between, and
--- however often the journal is cut: laws of handles, of what protects keys and of private objects
--- and keys
-use Rattle.std.specs.Prelude.{◌≡◌, ℕ, suc, Bool, true, false, List, [], ◌∷◌, Some, ◌==◌, ◌&&◌}
-use Rattle.ck_objects.specs.Records.{is_set}
+-- however often the journal is cut: laws of handles, of objects that have ended, of what protects
+-- keys, of their states, of attributes that stay, of private objects and keys and of locks
+use Rattle.std.specs.Prelude.{◌≡◌, ℕ, suc, ◌≤◌, Bool, true, false, List, [], ◌∷◌, Some, None}
+use Rattle.std.specs.Prelude.{◌==◌, ◌&&◌}
+use Rattle.ck_objects.specs.Attributes.{type_of}
+use Rattle.ck_objects.specs.Records.{is_set, is_key_class, is_revealable, state_in}
+use Rattle.ck_objects.specs.Templates.{class_of, value_at}
 use Rattle.ck_types.specs.TokenLimits.{Ranges}
+use Rattle.ck_objects.specs.declared.attributes.Attribute.{Attribute}
 use Rattle.ck_objects.specs.declared.attributes.Attribute.TheVariants as attribute
+use Rattle.ck_objects.specs.declared.attributes.Class.{Class}
 use Rattle.ck_objects.specs.declared.items.Item.{Item}
+use Rattle.ck_objects.specs.declared.key_states.KeyState.{KeyState}
+use Rattle.ck_objects.specs.declared.key_states.KeyState.TheVariants as state
 use Rattle.ck_types.specs.declared.users.UserType.TheVariants as user
+use Rattle.ck_journal.specs.declared.calls.Call.TheVariants as call
 use Rattle.ck_journal.specs.declared.calls.Entry.{Entry}
 use Rattle.ck_journal.specs.declared.operations.OperationKind.{OperationKind}
 use Rattle.ck_journal.specs.declared.replies.Body.TheVariants as body
 use Rattle.ck_journal.specs.Events.{Event, answered, cut, after_events, AreSoundEvents}
 use Rattle.ck_journal.specs.Histories.{History, ◌◁◌, done}
 use Rattle.ck_journal.specs.KeyLaws.{is_sensitive_key, is_extractable}
-use Rattle.ck_journal.specs.Laws.{IsPrivate}
-use Rattle.ck_journal.specs.Objects.{creates, creations, object_at, names_with, view_of}
+use Rattle.ck_journal.specs.Laws.{IsPrivate, IsSoundHistory}
+use Rattle.ck_journal.specs.Objects.{creates, creations, object_at, object_named, names_with}
+use Rattle.ck_journal.specs.Objects.{view_of}
 use Rattle.ck_journal.specs.Operations.{is_active, key_in}
+use Rattle.ck_journal.specs.Pins.{is_initialized, is_locked}
 use Rattle.ck_journal.specs.Sessions.{opens, login}
 
 -- ---- handles of objects
@@ -68,6 +78,22 @@ AreGivenOnce Gives =
 abbrev pub ObjectHandlesAreGivenOnce : Type 0
 ObjectHandlesAreGivenOnce = AreGivenOnce GivesObject
 
+-- ---- objects that have ended
+
+-- what was created and isn't there at a front isn't there at any later one
+abbrev pub EndedObjectsStayEnded : Type 0
+EndedObjectsStayEnded =
+    (limits : Ranges) (h : History) (later : List Event) → AreSoundEvents limits h later
+    → (n : ℕ) → n ≤ creations h → object_at h n ≡ None → object_at (after_events h later) n ≡ None
+
+-- the handle of a C_DestroyObject that was answered OK never names an object again
+abbrev pub DestroyedHandlesNameNothing : Type 0
+DestroyedHandlesNameNothing =
+    (limits : Ranges) (h : History) (e : Entry) (later : List Event)
+    → AreSoundEvents limits (e ◁ h) later → (session handle : ℕ)
+    → done e ≡ Some (call.DestroyObject session handle)
+    → object_named (after_events (e ◁ h) later) handle ≡ None
+
 -- ---- handles of sessions
 
 -- the entry opens a session and returns this handle
@@ -78,6 +104,12 @@ pub record GivesSession (e : Entry) (handle : ℕ) : Type 0 where
 -- no two sessions are given one handle
 abbrev pub SessionHandlesAreGivenOnce : Type 0
 SessionHandlesAreGivenOnce = AreGivenOnce GivesSession
+
+-- no object and no session is given handle 0, which is no handle (CK_INVALID_HANDLE)
+abbrev pub HandlesAreNotZero : Type 0
+HandlesAreNotZero =
+    (limits : Ranges) (e : Entry) (h : History) → IsSoundHistory limits (e ◁ h)
+    → (GivesObject e 0 → ⊥) × (GivesSession e 0 → ⊥)
 
 -- ---- what protects keys
 
@@ -114,6 +146,62 @@ NeverExtractableIsTrue =
     BetweenFronts (λ before now.
     is_set now attribute.NeverExtractable ≡ true → is_extractable before ≡ false)
 
+-- what may not be revealed at a front may not be revealed at any later one
+abbrev pub HiddenStays : Type 0
+HiddenStays =
+    BetweenFronts (λ before now. is_revealable before ≡ false → is_revealable now ≡ false)
+
+-- ---- states of keys
+
+-- how far a key has come; active and suspended are one phase, since a key may go to and fro
+abbrev pub phase : KeyState → ℕ
+phase state.PreActivation = 0
+phase state.Active = 1
+phase state.Suspended = 1
+phase state.Deactivated = 2
+phase state.Compromised = 3
+phase state.Destroyed = 4
+
+-- a key never goes back to an earlier phase: what is deactivated, compromised or destroyed isn't
+-- active again, and what is destroyed stays so
+abbrev pub KeyStatesNeverGoBack : Type 0
+KeyStatesNeverGoBack =
+    BetweenFronts (λ before now. (s t : KeyState)
+    → state_in before ≡ Some s → state_in now ≡ Some t → phase s ≤ phase t)
+
+-- ---- attributes that stay
+
+-- no call changes this attribute of objects of the class: for all objects the class, where they
+-- are kept, and what may be done with them; for keys also the type, the value, and how they came to
+-- be
+abbrev pub is_read_only : Class → Attribute → Bool
+is_read_only c attribute.Class = true
+is_read_only c attribute.Token = true
+is_read_only c attribute.Private = true
+is_read_only c attribute.Modifiable = true
+is_read_only c attribute.Copyable = true
+is_read_only c attribute.Destroyable = true
+is_read_only c attribute.KeyType = is_key_class c
+is_read_only c attribute.Value = is_key_class c
+is_read_only c attribute.ValueLen = is_key_class c
+is_read_only c attribute.Local = is_key_class c
+is_read_only c attribute.KeyGenMechanism = is_key_class c
+is_read_only c attribute.AlwaysSensitive = is_key_class c
+is_read_only c attribute.NeverExtractable = is_key_class c
+is_read_only c other = false
+
+-- these attributes are at a front what they were at every earlier one
+abbrev pub ReadOnlyAttributesStay : Type 0
+ReadOnlyAttributesStay =
+    BetweenFronts (λ before now. (a : Attribute) → is_read_only (class_of before) a ≡ true
+    → value_at now (type_of a) ≡ value_at before (type_of a))
+
+-- where CKA_MODIFIABLE is false, no attribute changes, except the state of a key
+abbrev pub UnmodifiableObjectsStay : Type 0
+UnmodifiableObjectsStay =
+    BetweenFronts (λ before now. is_set before attribute.Modifiable ≡ false → (kind : ℕ)
+    → (kind ≡ type_of attribute.KeyState → ⊥) → value_at now kind ≡ value_at before kind)
+
 -- ---- private objects and keys
 
 -- CKA_PRIVATE of an object is at a front what it was at every earlier one
@@ -130,3 +218,13 @@ PrivateKeysServeTheUser =
     → IsPrivate h n → is_active k (after_events h later) session ≡ true
     → key_in k (after_events h later) session ≡ Some n
     → login (after_events h later) ≡ Some user.User
+
+-- ---- locks
+
+-- a locked security officer stays locked. A sound base that isn't initialized may have three wrong
+-- tries, which the first initialization sets back to 0: hence the premise.
+abbrev pub LockedOfficersStayLocked : Type 0
+LockedOfficersStayLocked =
+    (limits : Ranges) (h : History) (later : List Event) → AreSoundEvents limits h later
+    → is_initialized h ≡ true → is_locked user.So h ≡ true
+    → is_locked user.So (after_events h later) ≡ true

@@ -38,15 +38,23 @@ ghost use Rattle.ck_journal.specs.Laws.{
 };
 ghost use Rattle.ck_journal.specs.LawsOverEvents.{
   AlwaysSensitiveIsTrue,
+  DestroyedHandlesNameNothing,
+  EndedObjectsStayEnded,
+  HandlesAreNotZero,
   HandlesNameOneObject,
+  HiddenStays,
+  KeyStatesNeverGoBack,
+  LockedOfficersStayLocked,
   NeverExtractableIsTrue,
   NewObjectsHaveNewHandles,
   ObjectHandlesAreGivenOnce,
   PrivateKeysServeTheUser,
   PrivateStays,
+  ReadOnlyAttributesStay,
   SensitiveStays,
   SessionHandlesAreGivenOnce,
   UnextractableStays,
+  UnmodifiableObjectsStay,
 };
 
 /// A handle names at most one object, at one front and over all.
@@ -81,6 +89,21 @@ pub fn session_handles_are_given_once()
     ensures { SessionHandlesAreGivenOnce }
 {}
 
+/// No object and no session is given handle 0.
+pub fn handles_are_not_zero()
+    ensures { HandlesAreNotZero }
+{}
+
+/// An object that has ended doesn't come back.
+pub fn ended_objects_stay_ended()
+    ensures { EndedObjectsStayEnded }
+{}
+
+/// The handle of a C_DestroyObject that was answered CKR_OK never names an object again.
+pub fn destroyed_handles_name_nothing()
+    ensures { DestroyedHandlesNameNothing }
+{}
+
 /// A login is answered CKR_OK only with the user's PIN, and only where the user isn't locked.
 pub fn logins_need_the_pin()
     ensures { LoginsNeedThePin }
@@ -112,6 +135,11 @@ pub fn pins_stay()
 /// No user has more than three wrong tries.
 pub fn tries_are_at_most_three()
     ensures { TriesAreAtMostThree }
+{}
+
+/// A locked security officer of an initialized token stays locked.
+pub fn locked_officers_stay_locked()
+    ensures { LockedOfficersStayLocked }
 {}
 
 /// As long as a session object hasn't ended, its session is open.
@@ -263,4 +291,26 @@ pub fn always_sensitive_is_true()
 /// was extractable at no earlier front.
 pub fn never_extractable_is_true()
     ensures { NeverExtractableIsTrue }
+{}
+
+/// What may not be revealed at a front may not be revealed at any later one.
+pub fn hidden_stays()
+    ensures { HiddenStays }
+{}
+
+/// A key that is deactivated, compromised or destroyed isn't active again, nor does any other key
+/// go back to an earlier phase.
+pub fn key_states_never_go_back()
+    ensures { KeyStatesNeverGoBack }
+{}
+
+/// The class of an object, where it is kept, and what may be done with it never change; nor do the
+/// type of a key, its value, and how it came to be.
+pub fn read_only_attributes_stay()
+    ensures { ReadOnlyAttributesStay }
+{}
+
+/// Of an object whose CKA_MODIFIABLE is false nothing changes, except the state of a key.
+pub fn unmodifiable_objects_stay()
+    ensures { UnmodifiableObjectsStay }
 {}

@@ -1,4 +1,4 @@
-use Rattle.ck_journal.proofs.ProtectionLaws.{private-stays}
+use Rattle.ck_journal.proofs.AttributeLaws.{private-stays}
 use Rattle.ck_journal.proofs.laws.private_stays.Goals as goal
 
 pub returns : goal.returns
