@@ -2,8 +2,7 @@
 use Rattle.std.proofs.Common.{◌≡◌, ◌<◌, ◌+◌, ℕ, suc, Bool, true, false, List, [], ◌++◌, Ok, Err}
 use Rattle.std.proofs.Common.{append_assoc, refl, sym, ap₂, subst, arith}
 use Rattle.std.proofs.lemmas.List.{append-nil}
-use Rattle.std.specs.Prelude.{◌==◌, if◌then◌else◌, Result}
-use Rattle.std.specs.Result.{is_err, is_ok}
+use Rattle.std.specs.Prelude.{◌==◌, if◌then◌else◌}
 use Rattle.ck_plays.specs.Devices.{Reading, end_read, failed_read, read_on}
 use Rattle.ck_plays.specs.Plays.{after_reads}
 use Rattle.ck_plays.specs.Readings.{IsReadWhole, IsUnread, HasReadSoFar}
@@ -167,9 +166,3 @@ read-out most read A bytes reads e h = record {
   within = e;
   outcome = refl;
 }
-
--- what was kept, where that failed not
-pub kept : {A E : Type 0} (r : Result A E) (xs ys zs : List ℕ) → is_err r ≡ false
-    → xs ≡ (if is_ok r then ys else zs) → xs ≡ ys
-kept (Ok a) xs ys zs e h = h
-kept (Err x) xs ys zs e h = cc

@@ -61,7 +61,7 @@ read_on r bytes = record {
   failures = r.failures;
 }
 
--- the same and one more read, which put this many bytes into the front of the buffer
+-- the same and one more read, which put this many bytes into the beginning of the buffer
 abbrev pub after_read : {E : Type 0} → Reading → Result ℕ E → List ℕ → Reading
 after_read r (Ok count) buffer =
     if is_end count buffer then end_read r else read_on r (take count buffer)
@@ -83,7 +83,7 @@ wrote w bytes = record {
   failures = w.failures;
 }
 
--- the same and one more write, which took this many bytes of the front
+-- the same and one more write, which took this many of the first bytes
 abbrev pub after_write : {E : Type 0} → Writing → Result ℕ E → List ℕ → Writing
 after_write w (Ok count) bytes = if count == 0 then failed_write w else wrote w (take count bytes)
 after_write w (Err error) bytes = failed_write w

@@ -35,7 +35,7 @@ IsLineRefused number bytes fault.Write = ⊥
 IsLineRefused number bytes fault.Memory = length bytes ≤ longest_line
 IsLineRefused number bytes fault.Turns = ⊥
 
--- these bytes weren't written whole: the writer failed behind a front of them, or there was no
+-- these bytes weren't written whole: the writer failed behind a beginning of them, or there was no
 -- memory and none is written
 abbrev pub IsUnwritten : (Writing → Type 0) → Writing → List ℕ → PlayFault → Type 0
 IsUnwritten is_written w bytes (fault.Line n reason) = ⊥

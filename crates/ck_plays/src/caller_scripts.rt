@@ -32,7 +32,8 @@ fn add_call(
     if !(1..=callers).contains(&caller) {
         return Err(PlayFault::Line(number, BadLine::CallerAbove(callers)));
     }
-    calls.push((caller, call)).map_err(|_| PlayFault::Memory)
+    calls.push((caller, call))?;
+    Ok(())
 }
 
 /// Adds the call of a line of this number, if it has one.

@@ -28,7 +28,7 @@ impl ReadCounts {
         }
     }
 
-    /// Counts a read into the front of a buffer.
+    /// Counts a read into the beginning of a buffer.
     pub(crate) fn count(&mut self, read: &io::Result<usize>, buffer: &[u8])
         ensures counted { (r : Reading) → AreCounts self.old r
             → AreCounts self.new (after_read r read.now buffer.now) }

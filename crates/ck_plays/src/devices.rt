@@ -10,7 +10,7 @@ pub trait Source {
     /// Whether this was read of the source up to now.
     ghost is_read: { Self → Reading → Type 0 };
 
-    /// Reads into the buffer's front and says how many bytes it read, 0 at the end.
+    /// Reads into the buffer's beginning and says how many bytes it read, 0 at the end.
     fn read(&mut self, buffer: &mut [u8]) -> io::Result<usize>
         ensures bound { IfOk result (λ count. count ≤ length buffer.new) }
         ensures reading { (r : Reading) → is_read self.old r
@@ -26,7 +26,7 @@ pub trait Sink {
     /// Whether this was written to the sink up to now.
     ghost is_written: { Self → Writing → Type 0 };
 
-    /// Takes bytes from the front and says how many it took. It is never asked to take none.
+    /// Takes some of the first bytes and says how many it took. It is never asked to take none.
     fn write(&mut self, bytes: &[u8]) -> io::Result<usize>
         requires some { 0 < length bytes.now }
         ensures bound { IfOk result (λ count. count ≤ length bytes.now) }

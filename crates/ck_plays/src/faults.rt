@@ -4,6 +4,7 @@ ghost use Rattle.ck_plays.specs.Faults.{status_of};
 
 use ck_script::BadLine;
 use ck_types::NoMemory;
+use std::alloc::{AllocError, AllocFailed};
 use thiserror::Error;
 
 /// Why a script wasn't played to its end.
@@ -27,6 +28,22 @@ impl From<NoMemory> for PlayFault {
     ghost from_gives = { λ _ e. e ≡ Memory };
 
     fn from(_error: NoMemory) -> PlayFault {
+        PlayFault::Memory
+    }
+}
+
+impl From<AllocError> for PlayFault {
+    ghost from_gives = { λ _ e. e ≡ Memory };
+
+    fn from(_error: AllocError) -> PlayFault {
+        PlayFault::Memory
+    }
+}
+
+impl<T: Drop> From<AllocFailed<T>> for PlayFault {
+    ghost from_gives = { λ _ e. e ≡ Memory };
+
+    fn from(_error: AllocFailed<T>) -> PlayFault {
         PlayFault::Memory
     }
 }

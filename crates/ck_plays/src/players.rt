@@ -87,25 +87,25 @@ impl<G: JournaledToken> Player<G> {
         Ok(())
     }
 
-    /// Completes the open line by its last piece, and answers it.
+    /// Completes the open line by its rest, and answers it.
     fn complete_line<W: Sink>(
         &mut self,
         alloc: Global,
         writer: &mut W,
-        piece: &[u8],
+        end: &[u8],
     ) -> Result<(), PlayFault>
-        ensures ok { OnOk result (AnswersLine (self.old.open_line ++ piece.now) self.old.token
+        ensures ok { OnOk result (AnswersLine (self.old.open_line ++ end.now) self.old.token
             self.old.number (W.is_written writer.old)
             self.new.token self.new.number (W.is_written writer.new)) }
         ensures emptied { OnOk result (self.new.open_line ≡ []) }
-        ensures err { IfErr result (StopsAtLine (self.old.open_line ++ piece.now) self.old.token
+        ensures err { IfErr result (StopsAtLine (self.old.open_line ++ end.now) self.old.token
             self.old.number (W.is_written writer.old) (W.is_written writer.new)) }
     {
-        extend_open_line(&mut self.open_line, piece, self.number)?;
+        extend_open_line(&mut self.open_line, end, self.number)?;
         self.end_line(alloc, writer)
     }
 
-    /// Answers the lines that end in this piece of a script, and keeps what follows them.
+    /// Answers the lines that end in these bytes of a script, and keeps what follows them.
     pub(crate) fn answer_chunk<W: Sink>(
         &mut self,
         alloc: Global,
@@ -119,8 +119,8 @@ impl<G: JournaledToken> Player<G> {
     {
         let mut rest = chunk;
         // The label is the loop's name in the proofs.
-        'lines: while let Some((piece, more)) = cut_line(rest) {
-            self.complete_line(alloc, writer, piece)?;
+        'lines: while let Some((end, more)) = cut_line(rest) {
+            self.complete_line(alloc, writer, end)?;
             rest = more;
         }
         extend_open_line(&mut self.open_line, rest, self.number)
@@ -160,16 +160,15 @@ pub fn write_all<W: Sink>(writer: &mut W, bytes: &[u8]) -> Result<(), PlayFault>
 }
 
 /// Adds to the open line, of this number, what is next of it.
-fn extend_open_line(open_line: &mut Vec<u8>, piece: &[u8], number: u64) -> Result<(), PlayFault>
-    ensures ok { OnOk result (open_line.new.items ≡ open_line.old.items ++ piece.now) }
-    ensures err { IfErr result (IsLineRefused number (open_line.old.items ++ piece.now)) }
+fn extend_open_line(open_line: &mut Vec<u8>, next: &[u8], number: u64) -> Result<(), PlayFault>
+    ensures ok { OnOk result (open_line.new.items ≡ open_line.old.items ++ next.now) }
+    ensures err { IfErr result (IsLineRefused number (open_line.old.items ++ next.now)) }
 {
-    if open_line.len().saturating_add(piece.len()) > LONGEST_LINE {
+    if open_line.len().saturating_add(next.len()) > LONGEST_LINE {
         return Err(PlayFault::Line(number, BadLine::TooLong));
     }
-    open_line
-        .extend_from_slice(piece)
-        .map_err(|_| PlayFault::Memory)
+    open_line.extend_from_slice(next)?;
+    Ok(())
 }
 
 /// Answers a call and writes the reply.

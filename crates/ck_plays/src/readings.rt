@@ -52,9 +52,7 @@ fn read_to_end<R: Source>(
         if count == 0 {
             return Ok(());
         }
-        if script.extend_from_slice(&buffer[..count]).is_err() {
-            return Err(PlayFault::Memory);
-        }
+        script.extend_from_slice(&buffer[..count])?;
     }
     Err(PlayFault::Turns)
 }

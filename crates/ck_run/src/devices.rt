@@ -4,36 +4,41 @@ use ck_token::{Limits, Token};
 use std::alloc::Global;
 use std::process::Abort;
 
-/// How devices in memory move bytes, and which of their reads and writes fail: 0 is none.
+/// How devices in memory move bytes, and which of their reads and writes fail.
 #[derive(Clone, Copy)]
 pub(crate) struct Devices {
     /// The most bytes of a read and of a write.
-    pub(crate) piece: usize,
-    pub(crate) read_fails_at: u64,
-    pub(crate) write_fails_at: u64,
-    pub(crate) write_stops_at: u64,
+    pub(crate) most_bytes: usize,
+    pub(crate) read_fails_at: Option<u64>,
+    pub(crate) write_fails_at: Option<u64>,
+    pub(crate) write_stops_at: Option<u64>,
     /// The most reads.
     pub(crate) most_reads: u64,
 }
 
 impl Devices {
     /// Devices that never fail.
-    pub(crate) fn of(piece: usize) -> Devices {
+    pub(crate) fn of(most_bytes: usize) -> Devices {
         Devices {
-            piece,
-            read_fails_at: 0,
-            write_fails_at: 0,
-            write_stops_at: 0,
+            most_bytes,
+            read_fails_at: None,
+            write_fails_at: None,
+            write_stops_at: None,
             most_reads: 1_000,
         }
     }
 
     pub(crate) fn reader<'a>(&self, script: &'a [u8]) -> MemorySource<'a> {
-        MemorySource::new(script, self.piece, self.read_fails_at)
+        MemorySource::new(script, self.most_bytes, self.read_fails_at)
     }
 
     pub(crate) fn writer(&self, alloc: Global) -> MemorySink {
-        MemorySink::new(alloc, self.piece, self.write_fails_at, self.write_stops_at)
+        MemorySink::new(
+            alloc,
+            self.most_bytes,
+            self.write_fails_at,
+            self.write_stops_at,
+        )
     }
 }
 

@@ -18,7 +18,7 @@ fn lines_are_answered_before_the_next_read(rt: HostRuntime) {
     for count in 0..=SCRIPT.len() {
         let replies = beginning(REPLIES, (count / 16).saturating_mul(3));
         let mut failing = Devices::of(1);
-        failing.read_fails_at = (count as u64).saturating_add(1);
+        failing.read_fails_at = Some((count as u64).saturating_add(1));
         check_play(&rt, rt.alloc(), SCRIPT, failing, replies, End::Read);
         let mut ending = Devices::of(1);
         ending.most_reads = count as u64;
@@ -48,10 +48,10 @@ fn a_writer_that_fails_has_a_beginning_of_the_replies(rt: HostRuntime) {
         let next = (count as u64).saturating_add(1);
         let replies = beginning(REPLIES, count);
         let mut failing = Devices::of(1);
-        failing.write_fails_at = next;
+        failing.write_fails_at = Some(next);
         check_play(&rt, rt.alloc(), SCRIPT, failing, replies, End::Write);
         let mut stopping = Devices::of(1);
-        stopping.write_stops_at = next;
+        stopping.write_stops_at = Some(next);
         check_play(&rt, rt.alloc(), SCRIPT, stopping, replies, End::Write);
     }
 }
@@ -62,6 +62,6 @@ fn a_reply_is_one_write(rt: HostRuntime) {
     let script = b"1 GetMechanismList\n1 GetTokenInfo\n";
     let reply = b"0 250,251,252,255,256,257,260,261,262,270,271,272,350\n";
     let mut failing = Devices::of(1_000);
-    failing.write_fails_at = 2;
+    failing.write_fails_at = Some(2);
     check_play(&rt, rt.alloc(), script, failing, reply, End::Write);
 }

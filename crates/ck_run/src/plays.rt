@@ -49,8 +49,8 @@ fn check_plays(rt: &impl Abort, alloc: Global, plays: &[ScriptRow], devices: Dev
 
 #[test]
 fn scripts_are_played(rt: HostRuntime) {
-    for piece in [1, 3, 1_000] {
-        check_plays(&rt, rt.alloc(), &PLAYS, Devices::of(piece));
+    for most_bytes in [1, 3, 1_000] {
+        check_plays(&rt, rt.alloc(), &PLAYS, Devices::of(most_bytes));
     }
 }
 

@@ -10,8 +10,15 @@ use std::test::Fail;
 /// The arguments of the program, a script, what the program writes, and its status.
 type ProgramRow = (&'static str, &'static str, &'static str, u8);
 
-/// The same, and after the script the read and the write that fail, 0 for none.
-type FailingPlay = (&'static str, &'static str, u64, u64, &'static str, u8);
+/// The same, and after the script the read and the write that fail.
+type FailingPlay = (
+    &'static str,
+    &'static str,
+    Option<u64>,
+    Option<u64>,
+    &'static str,
+    u8,
+);
 
 /// A script of two callers.
 const SCRIPT: &str = "1 InitToken 31323334\n1 OpenSession 6\n2 CloseSession 7\n";
@@ -57,14 +64,14 @@ const PLAYS: [ProgramRow; 11] = [
 /// In the first row the program ends before the read that fails.
 #[rattlefmt::skip]
 const FAILING: [FailingPlay; 8] = [
-    ("ck_run", "Nope\n", 6, 0, "", 1),
-    ("ck_run", "Nope\n", 5, 0, "", 3),
-    ("ck_run", "Nope", 5, 0, "", 3),
-    ("ck_run", "1 InitToken 31\n", 16, 0, "a2\n", 3),
-    ("ck_run", "1 InitToken 31\n", 0, 2, "a", 3),
-    ("ck_run --callers 2", SCRIPT, 5, 0, "", 3),
-    ("ck_run --callers 2", SCRIPT, 0, 2, "e", 3),
-    ("ck_run --help", "", 0, 1, "", 3),
+    ("ck_run", "Nope\n", Some(6), None, "", 1),
+    ("ck_run", "Nope\n", Some(5), None, "", 3),
+    ("ck_run", "Nope", Some(5), None, "", 3),
+    ("ck_run", "1 InitToken 31\n", Some(16), None, "a2\n", 3),
+    ("ck_run", "1 InitToken 31\n", None, Some(2), "a", 3),
+    ("ck_run --callers 2", SCRIPT, Some(5), None, "", 3),
+    ("ck_run --callers 2", SCRIPT, None, Some(2), "e", 3),
+    ("ck_run --help", "", None, Some(1), "", 3),
 ];
 
 /// Arguments with which nothing is read or written.
@@ -125,7 +132,11 @@ fn check_play<RT: Abort + Eprint + Runtime>(
 #[test]
 fn the_program_writes_and_ends(rt: HostRuntime) -> Result<(), Fail> {
     for (arguments, script, written, status) in &PLAYS {
-        check_play(rt, rt.alloc(), (arguments, script, 0, 0, written, *status))?;
+        check_play(
+            rt,
+            rt.alloc(),
+            (arguments, script, None, None, written, *status),
+        )?;
     }
     Ok(())
 }
@@ -141,7 +152,7 @@ fn devices_fail(rt: HostRuntime) -> Result<(), Fail> {
 #[test]
 fn bad_arguments_are_refused(rt: HostRuntime) -> Result<(), Fail> {
     for arguments in &BAD_ARGUMENTS {
-        check_play(rt, rt.alloc(), (arguments, "", 0, 0, "", 2))?;
+        check_play(rt, rt.alloc(), (arguments, "", None, None, "", 2))?;
     }
     Ok(())
 }

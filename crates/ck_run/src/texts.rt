@@ -1,7 +1,7 @@
 //! The texts of return codes, of faults, of bad arguments, of a stopped run and of other errors.
 use ck_plays::PlayFault;
 use ck_program::{ArgumentFault, BadArguments, ProgramFault, options_of};
-use ck_script::{BadLine, LineError};
+use ck_script::{BadLine, Line, LineError};
 use ck_token::{CallError, NoMemory, Rv, RvError, Stopped, Uncut};
 use std::alloc::Global;
 use std::fmt::Display;
@@ -53,7 +53,7 @@ const CODES: [(u64, &str); 40] = [
     (0x150, "CKR_BUFFER_TOO_SMALL"),
 ];
 
-const FAULTS: [(&ProgramFault, &str); 7] = [
+const FAULTS: [(&ProgramFault, &str); 8] = [
     (
         &ProgramFault::Play(PlayFault::Line(u64::MAX, BadLine::NoCall)),
         "line 18446744073709551615: bad script: a line is a caller, a call and its arguments",
@@ -61,6 +61,10 @@ const FAULTS: [(&ProgramFault, &str); 7] = [
     (
         &ProgramFault::Play(PlayFault::Line(3, BadLine::CallerAbove(2))),
         "line 3: bad script: the caller is a number from 1 to 2",
+    ),
+    (
+        &ProgramFault::Play(PlayFault::Line(1, BadLine::NotText)),
+        "line 1: bad script: the line isn't text",
     ),
     (&ProgramFault::Play(PlayFault::Read), "read fault"),
     (&ProgramFault::Play(PlayFault::Write), "write fault"),
@@ -107,6 +111,26 @@ fn check_faults(
 #[test]
 fn faults_have_their_texts(rt: HostRuntime) -> Result<(), Fail> {
     check_faults(&rt, rt.alloc(), &FAULTS)
+}
+
+/// Lines in which a control character stands: behind a name, in the first line of a program, behind
+/// a byte order mark, and beside a tab.
+const NO_TEXTS: [&[u8]; 4] = [
+    b"1 GetTokenInfo\0",
+    b"\x7fELF\x02\x01\x01\0\0",
+    b"\xef\xbb\xbf1\0",
+    b"1\tGetTokenInfo\x1b",
+];
+
+#[test]
+fn lines_with_control_characters_are_no_text(rt: HostRuntime) {
+    for bytes in NO_TEXTS {
+        let line = Line::parse(rt.alloc(), bytes);
+        assert!(&rt;
+            matches!(line, Err(LineError::Bad(BadLine::NotText))),
+            "{bytes:?}"
+        );
+    }
 }
 
 /// Why these arguments are bad.

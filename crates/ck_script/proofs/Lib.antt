@@ -1,4 +1,3 @@
 pub mod WordLemmas
 pub mod DigitLemmas
-pub mod NumberLemmas
 pub mod JoinLemmas

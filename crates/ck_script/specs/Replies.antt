@@ -12,6 +12,13 @@ use Rattle.ck_journal.specs.declared.replies.Body.TheVariants as body
 use Rattle.ck_journal.specs.declared.replies.Reply.{Reply}
 use Rattle.ck_script.specs.Arguments.{comma}
 use Rattle.ck_script.specs.Lines.{line_end}
+use Rattle.ck_script.specs.declared.replies.Base.{Base}
+use Rattle.ck_script.specs.declared.replies.Base.TheVariants as base
+
+-- the number that is a base
+abbrev pub base_number : Base → ℕ
+base_number base.Decimal = 10
+base_number base.Hexadecimal = 16
 
 -- a number in hexadecimal, in lower case
 abbrev pub hexadecimal : ℕ → List ℕ

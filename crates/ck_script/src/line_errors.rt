@@ -26,6 +26,9 @@ pub enum NumberError {
 pub enum BadLine {
     #[error("a line has at most {LONGEST_LINE} bytes")]
     TooLong,
+    /// There is a control character in the line.
+    #[error("the line isn't text")]
+    NotText,
     #[error("a byte order mark stands before the line")]
     ByteOrderMark,
     #[error("a carriage return stands at the end of the line")]
@@ -49,8 +52,8 @@ pub enum BadLine {
     MisspelledCall(CallName),
     #[error("{0} takes {1}")]
     ArgumentCount(CallName, Arity),
-    #[error("{0}")]
-    Number(NumberError),
+    #[error(transparent)]
+    Number(#[from] NumberError),
     #[error("bytes are written in two hexadecimal digits each, and no bytes as -")]
     Bytes,
     #[error("a mechanism is written as type, or with its parameter as type:bytes")]
@@ -61,18 +64,12 @@ pub enum BadLine {
     Query,
 }
 
-impl From<NumberError> for BadLine {
-    fn from(error: NumberError) -> BadLine {
-        BadLine::Number(error)
-    }
-}
-
 /// Why a line wasn't read.
 #[derive(Clone, Copy, Debug, PartialEq, Eq, Error)]
 pub enum LineError {
     #[error("out of memory")]
     Memory,
-    #[error("{0}")]
+    #[error(transparent)]
     Bad(BadLine),
 }
 

@@ -81,8 +81,16 @@ fn words_meaning(alloc: Global, mut words: Split) -> Result<Line, LineError>
     Ok(Line::Called { caller, call })
 }
 
-/// What is wrong with the bytes between the words of a bad line, if anything is.
+/// Whether a byte is a control character other than a tab and those that end lines.
+fn is_no_text(byte: u8) -> bool {
+    byte.is_ascii_control() && !matches!(byte, b'\t' | b'\n' | b'\r')
+}
+
+/// What is wrong with the bytes of a bad line, whatever its words mean, if anything is.
 fn layout_error(bytes: &[u8]) -> Option<BadLine> {
+    if bytes.iter().any(|byte| is_no_text(*byte)) {
+        return Some(BadLine::NotText);
+    }
     if bytes.starts_with(b"\xef\xbb\xbf") {
         return Some(BadLine::ByteOrderMark);
     }
@@ -104,8 +112,6 @@ pub fn cut_line(bytes: &[u8]) -> Option<(&[u8], &[u8])>
         (λ cut. lines_in bytes.now ≡ cut.0.now ∷ lines_in cut.1.now) }
     ensures shorter { IfSome result (λ cut. length cut.1.now < length bytes.now) }
 {
-    match position_of(LINE_END, bytes) {
-        Some(at) => Some((&bytes[..at], &bytes[at + 1..])),
-        None => None,
-    }
+    let at = position_of(LINE_END, bytes)?;
+    Some((&bytes[..at], &bytes[at + 1..]))
 }

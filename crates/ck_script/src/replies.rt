@@ -1,46 +1,39 @@
-ghost use Rattle.std.specs.Prelude.{◌≡◌, ◌++◌, ◌≤◌, ◌<◌, false, codes, IfOk, OnOk, string_bytes};
-ghost use Rattle.std.specs.Fmt.{digit_glyph, digits};
+ghost use Rattle.std.specs.Prelude.{◌≡◌, ◌++◌, false, codes, IfOk, OnOk, string_bytes};
+ghost use Rattle.std.specs.Fmt.{digits};
 ghost use Rattle.std.specs.Str.Lossy.{utf8_lossy};
 ghost use Rattle.hex.specs.Hex.{encode_lower};
-ghost use Rattle.ck_script.specs.Replies.{bytes_text, answer_text, answers_text, numbers_text};
-ghost use Rattle.ck_script.specs.Replies.{body_text, reply_line, reply_text};
+ghost use Rattle.ck_script.specs.Replies.{base_number, bytes_text, answer_text, answers_text};
+ghost use Rattle.ck_script.specs.Replies.{numbers_text, body_text, reply_line, reply_text};
 
 use crate::arguments::{COLON, COMMA, DASH, EQUALS_SIGN};
 use crate::lines::{LINE_END, SPACE};
 use ck_journal::{Answer, Body, Reply};
 use ck_types::NoMemory;
 use std::alloc::Global;
+use std::io::Write;
 
-/// The digit of this value, in lower case.
-fn digit(value: u8) -> u8
-    requires { value < 16 }
-    ensures { result ≡ digit_glyph false value }
-{
-    if value < 10 {
-        b'0' + value
-    } else {
-        b'a' + (value - 10)
-    }
+/// The base in which a number is written.
+#[derive(Clone, Copy)]
+enum Base {
+    Decimal,
+    Hexadecimal,
 }
 
-/// Appends the digits of a number in a base, without leading zeros. They are made by hand, since
-/// `write!` writes to a `String` and the text of a reply is bytes, which go to a sink as they are.
-/// The function calls itself, since the last digit is the first that is known.
-fn push_number(out: &mut Vec<u8>, number: u64, base: u64) -> Result<(), NoMemory>
-    requires { (2 ≤ base) × (base ≤ 16) }
-    ensures { OnOk result (out.new.items ≡ out.old.items ++ digits base false number) }
+/// Appends the digits of a number in a base, in lower case.
+fn push_number(out: &mut Vec<u8>, number: u64, base: Base) -> Result<(), NoMemory>
+    ensures { OnOk result (out.new.items
+        ≡ out.old.items ++ digits (base_number base) false number) }
 {
-    if number >= base {
-        push_number(out, number / base, base)?;
+    match base {
+        Base::Decimal => write!(out, "{number}").map_err(|_| NoMemory),
+        Base::Hexadecimal => write!(out, "{number:x}").map_err(|_| NoMemory),
     }
-    out.push(digit((number % base) as u8))?;
-    Ok(())
 }
 
 /// Appends a space and the digits of a number in a base.
-fn push_next(out: &mut Vec<u8>, number: u64, base: u64) -> Result<(), NoMemory>
-    requires { (2 ≤ base) × (base ≤ 16) }
-    ensures { OnOk result (out.new.items ≡ out.old.items ++ codes " " ++ digits base false number) }
+fn push_next(out: &mut Vec<u8>, number: u64, base: Base) -> Result<(), NoMemory>
+    ensures { OnOk result (out.new.items
+        ≡ out.old.items ++ codes " " ++ digits (base_number base) false number) }
 {
     out.push(SPACE)?;
     push_number(out, number, base)
@@ -81,7 +74,7 @@ fn push_answer(out: &mut Vec<u8>, answer: &Answer) -> Result<(), NoMemory>
         }
         Answer::Length(length) => {
             out.push(COLON)?;
-            push_number(out, *length, 10)
+            push_number(out, *length, Base::Decimal)
         }
         Answer::Unavailable => {
             out.push(b'!')?;
@@ -107,9 +100,9 @@ fn push_answers(out: &mut Vec<u8>, answers: &[Answer]) -> Result<(), NoMemory>
 }
 
 /// Appends the numbers in a base with a comma between two of them, and no numbers as `-`.
-fn push_numbers(out: &mut Vec<u8>, numbers: &[u64], base: u64) -> Result<(), NoMemory>
-    requires { (2 ≤ base) × (base ≤ 16) }
-    ensures { OnOk result (out.new.items ≡ out.old.items ++ numbers_text base numbers.now) }
+fn push_numbers(out: &mut Vec<u8>, numbers: &[u64], base: Base) -> Result<(), NoMemory>
+    ensures { OnOk result (out.new.items
+        ≡ out.old.items ++ numbers_text (base_number base) numbers.now) }
 {
     let Some((first, rest)) = numbers.split_first() else {
         out.push(DASH)?;
@@ -129,10 +122,10 @@ fn push_body(out: &mut Vec<u8>, body: &Body) -> Result<(), NoMemory>
 {
     match body {
         Body::Empty => Ok(()),
-        Body::Handle(handle) => push_next(out, *handle, 10),
+        Body::Handle(handle) => push_next(out, *handle, Base::Decimal),
         Body::Session { state, flags } => {
-            push_next(out, state.number(), 10)?;
-            push_next(out, *flags, 16)
+            push_next(out, state.number(), Base::Decimal)?;
+            push_next(out, *flags, Base::Hexadecimal)
         }
         Body::Token {
             flags,
@@ -140,14 +133,14 @@ fn push_body(out: &mut Vec<u8>, body: &Body) -> Result<(), NoMemory>
             sessions,
             rw_sessions,
         } => {
-            push_next(out, flags.number(), 16)?;
-            push_next(out, *limit, 10)?;
-            push_next(out, *sessions, 10)?;
-            push_next(out, *rw_sessions, 10)
+            push_next(out, flags.number(), Base::Hexadecimal)?;
+            push_next(out, *limit, Base::Decimal)?;
+            push_next(out, *sessions, Base::Decimal)?;
+            push_next(out, *rw_sessions, Base::Decimal)
         }
         Body::Mechanisms(types) => {
             out.push(SPACE)?;
-            push_numbers(out, types.as_slice(), 16)
+            push_numbers(out, types.as_slice(), Base::Hexadecimal)
         }
         Body::Attributes(answers) => {
             out.push(SPACE)?;
@@ -155,12 +148,12 @@ fn push_body(out: &mut Vec<u8>, body: &Body) -> Result<(), NoMemory>
         }
         Body::Handles(handles) => {
             out.push(SPACE)?;
-            push_numbers(out, handles.as_slice(), 10)
+            push_numbers(out, handles.as_slice(), Base::Decimal)
         }
         Body::Length(length) => {
             out.push(SPACE)?;
             out.push(COLON)?;
-            push_number(out, *length, 10)
+            push_number(out, *length, Base::Decimal)
         }
         Body::Bytes(bytes) => {
             out.push(SPACE)?;
@@ -173,7 +166,7 @@ fn push_body(out: &mut Vec<u8>, body: &Body) -> Result<(), NoMemory>
 pub fn push_line(out: &mut Vec<u8>, reply: &Reply) -> Result<(), NoMemory>
     ensures { OnOk result (out.new.items ≡ out.old.items ++ reply_line reply.now) }
 {
-    push_number(out, reply.rv.number(), 16)?;
+    push_number(out, reply.rv.number(), Base::Hexadecimal)?;
     push_body(out, &reply.body)
 }
 

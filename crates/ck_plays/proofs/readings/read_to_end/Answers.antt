@@ -1,8 +1,8 @@
-use Rattle.std.proofs.Common.{◌≡◌, take, sym, ◌∙◌, arith}
+use Rattle.std.proofs.Common.{◌≡◌, take, ◌∙◌, arith}
 use Rattle.std.proofs.lemmas.Result.{err_from_is_err_and}
 use Rattle.std.proofs.lemmas.Bool.{ne_eqb}
 use Rattle.ck_plays.proofs.ReadingLemmas.{read-nothing, read-more, read-failed, read-unkept}
-use Rattle.ck_plays.proofs.ReadingLemmas.{read-ended, read-out, kept}
+use Rattle.ck_plays.proofs.ReadingLemmas.{read-ended, read-out}
 use Rattle.ck_plays.proofs.readings.read_to_end.Goals as goal
 
 pub reading-init : goal.reading-init
@@ -22,12 +22,14 @@ returns-then-count-eq0 g c read h =
     (take c.in_ok-count.count c.read_some.new.buffer) c.if-count-eq0.true c.reading-test.true
     (c.reading.invariant.1 read h) c.in_ok-count.ensures.ok
 
-pub returns-then-is_err : goal.returns-then-is_err
-returns-then-is_err g c read h =
-    read-unkept c.args.most read _ _ c.reading.script.items _ c.reading._read
-    c.in_ok-count.count (take c.in_ok-count.count c.read_some.new.buffer)
+pub returns-in_err-extend_from_slice : goal.returns-in_err-extend_from_slice
+returns-in_err-extend_from_slice g c =
+    let p = err_from_is_err_and c.from_residual-in_err-extend_from_slice.result
+    c.from_residual-in_err-extend_from_slice.ensures.1 in
+    rw p.1 (λ read h. rw p.2 (read-unkept c.args.most read _ _ c.reading.script.items _
+    c.reading._read c.in_ok-count.count (take c.in_ok-count.count c.read_some.new.buffer)
     (ne_eqb _ 0 c.if-count-eq0.false) c.reading-test.true (c.reading.invariant.1 read h)
-    c.in_ok-count.ensures.ok
+    c.in_ok-count.ensures.ok))
 
 pub reading-preserved : goal.reading-preserved
 reading-preserved g c = (
@@ -36,8 +38,7 @@ reading-preserved g c = (
       c.in_ok-count.count (take c.in_ok-count.count c.read_some.new.buffer)
       (ne_eqb _ 0 c.if-count-eq0.false) (c.reading.invariant.1 read h)
       c.in_ok-count.ensures.ok
-      (kept c.extend_from_slice.result _ _ _ (sym c.is_err.ensures.value ∙ c.if-is_err.false)
-      c.extend_from_slice.ensures.items) (omega arith),
+      c.in_ok-extend_from_slice.ensures.items (omega arith),
 )
 
 pub returns : goal.returns

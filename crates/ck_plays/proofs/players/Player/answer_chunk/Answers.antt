@@ -16,7 +16,7 @@ returns-in_err-complete_line-clause-err g c =
     stopped-fewer limits written _ false (length so_far.before) (length lines) _ _ so_far.on_time
     (stopped-same limits written _ _ false _ _ _ _
     (first_later _ so_far.before (lines_in c.lines.rest.now)
-    (lines_in c.in-Some.more.now) _ c.in-Some.piece.now so_far.parts c.in-Some.ensures.lines) p.2
+    (lines_in c.in-Some.more.now) _ c.in-Some.end.now so_far.parts c.in-Some.ensures.lines) p.2
     (c.in_err-complete_line.ensures.err limits written so_far.before
     (lines_in c.in-Some.more.now) false (is_over-lines_in c.in-Some.more.now) so_far.answered)))
 
@@ -27,13 +27,13 @@ lines-preserved g c limits written lines h =
       before = _;
       parts = next_later _ so_far.before _ _ c.in-Some.more.now
           (first_later _ so_far.before (lines_in c.lines.rest.now)
-          (lines_in c.in-Some.more.now) _ c.in-Some.piece.now so_far.parts c.in-Some.ensures.lines)
+          (lines_in c.in-Some.more.now) _ c.in-Some.end.now so_far.parts c.in-Some.ensures.lines)
           c.in_ok-complete_line.ensures.emptied;
       on_time = omega (
         arith,
         so_far.on_time,
         length_push so_far.before
-            (c.lines.self.open_line ++ c.in-Some.piece.now),
+            (c.lines.self.open_line ++ c.in-Some.end.now),
       );
       answered = c.in_ok-complete_line.ensures.ok limits written so_far.before so_far.answered;
     }
