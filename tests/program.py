@@ -107,6 +107,7 @@ TOO_LONG = b"a line has at most 4194304 bytes"
 CALLER_ABOVE_2 = b"the caller is a number from 1 to 2"
 TOO_MANY_SPACES = (b"there are two spaces in a row, or one at an end of the line: "
                    b"single spaces separate its words")
+NOT_TEXT = b"the line isn't text"
 BYTE_ORDER_MARK = b"a byte order mark stands before the line"
 CARRIAGE_RETURN = b"a carriage return stands at the end of the line"
 TAB = b"there is a tab in the line: single spaces separate its words"
@@ -136,6 +137,8 @@ BAD_LINES = [
     (b"1 Logout 18446744073709551616", TOO_LARGE),
     (b"1 OpenSession 0x6", NO_CODE_NUMBER),
     (b"1 InitToken 313", NO_BYTES),
+    (b"1 Logout 1\0", NOT_TEXT),
+    (b"\x7fELF", NOT_TEXT),
     (b"1 Logout  1", TOO_MANY_SPACES),
     (b" # x", TOO_MANY_SPACES),
     (b"1 Logout 1\r", CARRIAGE_RETURN),

@@ -47,7 +47,7 @@ TABLES = {
     "call | arguments": ("script.md", 34),
     "code | name": ("script.md", 38),
     "status | when": ("script.md", 8),
-    "what is wrong | text": ("script.md", 18),
+    "what is wrong | text": ("script.md", 19),
     "name | the standard's": ("rust.md", 10),
     "function | makes": ("rust.md", 10),
     "what callers do at once | what comes": ("threads.md", 11),
@@ -224,6 +224,8 @@ LETTERS = "Hexadecimal is in lower case, without leading zeros in codes and flag
 # The faults of a line: the reason that is given, and what is then another part of the line.
 FAULTS = {
     "its length": (program.TOO_LONG, {"more": b"1" * program.LONGEST_LINE}),
+    "a control character other than a tab and a carriage return": (
+        program.NOT_TEXT, {"mark": b"\x01"}),
     "a byte order mark at its beginning": (program.BYTE_ORDER_MARK, {"front": b"\xef\xbb\xbf"}),
     "a carriage return at its end": (program.CARRIAGE_RETURN, {"end": b"\r"}),
     "a tab": (program.TAB, {"gap": b"\t"}),
@@ -971,8 +973,8 @@ def faulty_line(faults):
     """A line with these faults, or none where no line has all of them."""
     if len({*faults} & {"the caller", "a caller above N"}) == 2:
         return None
-    parts = {"front": b"", "caller": b"1", "gap": b" ", "name": b"Login", "between": b" ",
-             "first": b"1", "rest": b" 1 31", "more": b"", "end": b""}
+    parts = {"front": b"", "mark": b"", "caller": b"1", "gap": b" ", "name": b"Login",
+             "between": b" ", "first": b"1", "rest": b" 1 31", "more": b"", "end": b""}
     for fault in faults:
         parts.update(FAULTS[fault][1])
     if "fewer than two words" in faults:
