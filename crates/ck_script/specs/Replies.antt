@@ -15,7 +15,7 @@ use Rattle.ck_script.specs.Lines.{line_end}
 use Rattle.ck_script.specs.declared.replies.Base.{Base}
 use Rattle.ck_script.specs.declared.replies.Base.TheVariants as base
 
--- the number that is a base
+-- the number that a base of the code is; no text is defined by it
 abbrev pub base_number : Base → ℕ
 base_number base.Decimal = 10
 base_number base.Hexadecimal = 16
