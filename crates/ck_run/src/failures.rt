@@ -1,5 +1,6 @@
 //! Readers and writers that fail, and readers that do not end in time.
 use crate::devices::{Devices, End, check_play};
+use std::test::Fail;
 
 /// Three lines of 16 bytes.
 const SCRIPT: &[u8] = b"1 OpenSession 6\n1 SignFinal 7 ?\n1 OpenSession 4\n";
@@ -39,6 +40,23 @@ fn the_end_is_found_by_a_read(rt: HostRuntime) {
         };
         check_play(&rt, rt.alloc(), b"#x\n", devices, b"", end);
     }
+}
+
+/// How many bytes a comment has that is read one by one.
+const MANY: usize = 1_000_001;
+
+/// Each byte takes a read, and one more finds the end of the script.
+#[test]
+fn a_comment_may_take_many_reads(rt: HostRuntime) -> Result<(), Fail> {
+    let script = vec![in rt.alloc(); b'#'; MANY]?;
+    for (most_reads, end) in [(1_000_000, End::Endless), (1_000_002, End::Played)] {
+        let devices = Devices {
+            most_reads,
+            ..Devices::of(1)
+        };
+        check_play(&rt, rt.alloc(), &script, devices, b"", end);
+    }
+    Ok(())
 }
 
 /// Bytes are written one by one, and a write fails or takes none.

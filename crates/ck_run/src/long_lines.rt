@@ -1,4 +1,4 @@
-//! Lines of the greatest length and longer, lists of many items, and a long value.
+//! Lines of the greatest length and longer, lists of many items, and long values.
 use crate::devices::{Devices, End, check_play, check_script};
 use ck_script::LONGEST_LINE;
 use std::alloc::Global;
@@ -127,4 +127,29 @@ fn many_queries_may_be_asked_at_once(rt: HostRuntime) -> Result<(), Fail> {
 #[test]
 fn a_value_may_be_long(rt: HostRuntime) -> Result<(), Fail> {
     check_calls(&rt, rt.alloc(), &VALUES)
+}
+
+/// How many bytes a value has whose creation is a line of the greatest length.
+const LONG_VALUE: usize = 2_097_130;
+
+/// Plays a creation that is a line of the greatest length, and queries of the length of its value
+/// and of the value.
+#[test]
+fn a_value_may_be_as_long_as_a_line(rt: HostRuntime) -> Result<(), Fail> {
+    let alloc = rt.alloc();
+    let value = "a7".repeat(alloc, LONG_VALUE)?;
+    let call = format!(in alloc; "1 CreateObject 1 0=0000000000000000,1=00,11={value}")?;
+    assert_eq!(&rt; call.len(), LONGEST);
+    let script = format!(in alloc;
+        "1 InitToken 31323334\n1 OpenSession 6\n{call}\n1 GetAttributeValue 1 1 11:?,11:9999999"
+    )?;
+    let replies = format!(in alloc; "0\n0 1\n0 1\n0 :{LONG_VALUE},={value}\n")?;
+    let devices = Devices::of(LONGEST_LINE);
+    check_script(
+        &rt,
+        alloc,
+        devices,
+        (script.as_str(), replies.as_str(), End::Played),
+    );
+    Ok(())
 }

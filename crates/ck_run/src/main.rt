@@ -12,6 +12,8 @@ mod devices;
 #[cfg(test)]
 mod failures;
 #[cfg(test)]
+mod large_sizes;
+#[cfg(test)]
 mod long_lines;
 #[cfg(test)]
 mod long_messages;
