@@ -39,8 +39,8 @@ fn take_steps<K: TokenId, S: NextStep<K, A>, A: Drop, G: Gate<K>, W: Wait>(
 }
 
 /// Runs a script that has a thread.
-// A function over a script that is lent: of an owned one the prover's borrow checker can't follow two
-// fields that are lent at once.
+// A function over a script that is lent: of an owned one the prover's borrow checker can't follow
+// two fields that are lent at once.
 fn run_started<K: TokenId, S: NextStep<K, A>, A: Drop, G: Gate<K>, W: Wait>(
     rt: &W,
     alloc: Global,
