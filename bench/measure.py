@@ -191,7 +191,7 @@ def times_among(program, objects):
     """The nanoseconds of one round of each section among these objects."""
     text = script("crowd", objects)
     check_crowd(program, text)
-    best = best_of(times_of(text, "alone"))
+    best = best_of(times_of(text, "unshared"))
     return {name: best[name] / rounds for name, rounds, _ in crowd_sections(objects)}
 
 
@@ -207,16 +207,16 @@ def met_among_objects(program):
 
 def met_by_lock():
     text = script("single-calls")
-    alone, locked = (best_of(times_of(text, way)) for way in ("alone", "locked"))
+    unshared, locked = (best_of(times_of(text, way)) for way in ("unshared", "locked"))
     for what, calls, _ in SINGLE_CALLS:
-        direct, shared = (times[what] / calls for times in (alone, locked))
+        direct, shared = (times[what] / calls for times in (unshared, locked))
         text = f"{what}: {direct:.0f} ns, by the lock {shared:.0f} ns"
         if what in CALLS_BY_LOCK:
             more, most = shared - direct, CALLS_BY_LOCK[what]
             yield is_as_wanted(f"{text}, {more:.0f} more", f"at most {most}", more <= most)
         else:
             print(text)
-    print(f"audit: {alone['audit']:.0f} ns an entry")
+    print(f"audit: {unshared['audit']:.0f} ns an entry")
 
 
 def met_in_threads():

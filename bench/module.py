@@ -120,7 +120,7 @@ def measure(words, environment):
 
 def token_times():
     """The nanoseconds of a round's calls of the token without the module."""
-    output = subprocess.check_output([BENCH, "alone"], input=script("single-calls"), text=True)
+    output = subprocess.check_output([BENCH, "unshared"], input=script("single-calls"), text=True)
     best, count = {}, {}
     for line in output.splitlines():
         name, value = line.rsplit(": ", 1)

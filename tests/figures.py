@@ -55,11 +55,11 @@ FIGURES = {
     **{(100_000, name): 1_000 for name in GROWTHS},
     (1_000, make_script.SEARCH): 12 * 1_000,
     (50_000, make_script.SEARCH): 30 * 50_000,
-    **{(way, name): 100 * calls for way in ("alone", "locked")
+    **{(way, name): 100 * calls for way in ("unshared", "locked")
        for name, calls, _ in make_script.SINGLE_CALLS},
     ("locked", "session info"): (100 + 150) * 1_000,
     ("locked", "open and close, each"): (100 + 400) * 2_000,
-    ("alone", "audit"): 70,
+    ("unshared", "audit"): 70,
     ("threads", "asks of one caller"): 100_000_000,
     ("threads", "asks of four callers"): 133_300_000,
     ("threads", "asks beside changes"): 111_100_000,
@@ -165,12 +165,12 @@ def program_of(folder, output):
 def readings(tests):
     with tempfile.TemporaryDirectory() as folder:
         measure.FIGURES_PROGRAM = program_of(folder, BENCH_OUTPUT)
-        times = measure.times_of("", "alone")
+        times = measure.times_of("", "unshared")
         tests.expect(times == {"get label": [5000, 4000] * 5, "audit": [70] * 5}, f"{times}")
         tests.expect(measure.best_of(times) == {"get label": 4000, "audit": 70}, "the best times")
         for right, wrong in ((" 0 refused", " 1 refused"), (": true", ": false")):
             program_of(folder, BENCH_OUTPUT.replace(right, wrong))
-            tests.expect(stops(measure.times_of, "", "alone"), f"figures with{wrong} are taken")
+            tests.expect(stops(measure.times_of, "", "unshared"), f"figures with{wrong} are taken")
         among = make_script.crowd_sections(SIZE)
         program_of(folder, "".join(f"{name}: {5 * rounds} ns\n" for name, rounds, _ in among))
         with mock.patch.object(measure, "check_crowd"):
@@ -217,10 +217,10 @@ def times_of_calls(tests):
     """The times are those of the calls and of the audit."""
     call = "1 GetTokenInfo\n"
     text = f"#measure few\n{call * FEW}#measure many\n{call * MANY}"
-    for way in ("alone", "locked"):
+    for way in ("unshared", "locked"):
         for _ in range(RUNS):
             times = times_of_sections(text, way)
-            is_right = are_times_of_calls(times, way == "alone")
+            is_right = are_times_of_calls(times, way == "unshared")
             if is_right or not times:
                 break
         tests.expect(is_right, f"{way}, ns of {FEW} calls, {MANY} calls and an entry: {times}")

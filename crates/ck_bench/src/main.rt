@@ -2,7 +2,7 @@
 //! begins a section of it. For each section it is written how many calls it has and how many of
 //! them were refused. The argument says what is done, several times:
 //!
-//! - `alone`: a token that isn't shared answers the calls, and then its journal is audited. The
+//! - `unshared`: a token that isn't shared answers the calls, and then its journal is audited. The
 //!   processor time is written too.
 //! - `locked`: a shared token answers them to its one caller. The processor time is written too.
 //! - `threads` and a number: nothing is read. Callers of a shared token, each in a thread of its
@@ -16,10 +16,11 @@ mod measures;
 mod sections;
 mod tasks;
 mod threads;
+mod times;
 
 use anyhow::bail;
 use ck_shared::Runtime;
-use measures::{measure_alone, measure_locked};
+use measures::{measure_locked, measure_unshared};
 use sections::{Section, sections_in};
 use std::alloc::Global;
 use std::env::Env;
@@ -27,6 +28,7 @@ use std::io::Input;
 use std::time::{Clock, CpuClock};
 use std::{env, io};
 use threads::measure_together;
+use times::Times;
 
 /// How many questions callers ask where no number is given.
 const FEW_ASKS: u64 = 300;
@@ -39,7 +41,7 @@ const TRIES: u32 = 7;
 #[derive(Clone, Copy)]
 enum Request {
     All,
-    Alone,
+    Unshared,
     Locked,
     Threads(u64),
 }
@@ -61,13 +63,13 @@ fn request_of<R: Env + AllocGlobal>(rt: &R) -> anyhow::Result<Request> {
         return Ok(Request::All);
     };
     match (word.as_str(), words.next(), words.next()) {
-        ("alone", None, None) => Ok(Request::Alone),
+        ("unshared", None, None) => Ok(Request::Unshared),
         ("locked", None, None) => Ok(Request::Locked),
         ("threads", Some(number), None) => match number.as_str().parse() {
             Ok(asks) => Ok(Request::Threads(asks)),
             Err(_) => bail!("{number} is no number of questions"),
         },
-        _ => bail!("the arguments are `locked`, `alone` or `threads` and a number"),
+        _ => bail!("the arguments are `unshared`, `locked` or `threads` and a number"),
     }
 }
 
@@ -88,13 +90,13 @@ fn measure_once<R: Clock + CpuClock + Print + Runtime>(
     sections: &[Section],
 ) -> anyhow::Result<()> {
     match request {
-        Request::Alone => measure_alone(&rt, alloc, sections, true),
-        Request::Locked => measure_locked(rt, alloc, sections, true),
-        Request::Threads(asks) => measure_together(rt, alloc, asks, true),
+        Request::Unshared => measure_unshared(&rt, alloc, sections, Times::Written),
+        Request::Locked => measure_locked(rt, alloc, sections, Times::Written),
+        Request::Threads(asks) => measure_together(rt, alloc, asks, Times::Written),
         Request::All => {
-            measure_alone(&rt, alloc, sections, false)?;
-            measure_locked(rt, alloc, sections, false)?;
-            measure_together(rt, alloc, FEW_ASKS, false)
+            measure_unshared(&rt, alloc, sections, Times::LeftOut)?;
+            measure_locked(rt, alloc, sections, Times::LeftOut)?;
+            measure_together(rt, alloc, FEW_ASKS, Times::LeftOut)
         }
     }
 }

@@ -1,13 +1,13 @@
 //! The sections of a script, whose calls are made of a token that isn't shared, or by its one
 //! caller under the lock.
 use crate::sections::Section;
+use crate::times::Times;
 use ck_audit::{Verdict, audit_token};
 use ck_shared::{Caller, CallerWork, Gate, Runtime, TokenId, share};
 use ck_token::{Call, Limits, NoMemory, Reply, Rv, Token};
 use std::alloc::Global;
-use std::io;
 use std::sync::Wait;
-use std::time::{CpuClock, Duration};
+use std::time::CpuClock;
 
 /// What answers calls.
 trait Target {
@@ -47,29 +47,21 @@ fn make_calls<T: Target>(target: &mut T, alloc: Global, calls: &[Call]) -> Resul
     Ok(refused)
 }
 
-/// Writes the processor time that was taken, where that is asked for.
-fn write_time<R: Print>(rt: &R, name: &str, time: Duration, is_timed: bool) -> io::Result<()> {
-    if is_timed {
-        println!(rt; "{name}: {} ns", time.as_nanos())?;
-    }
-    Ok(())
-}
-
 /// Makes the calls of a section, and writes how many they are, how many were refused and, where
-/// that is asked for, the processor time that they took.
+/// times are written, the processor time that they took.
 fn measure_section<R: CpuClock + Print, T: Target>(
     rt: &R,
     alloc: Global,
     target: &mut T,
     section: &Section,
-    is_timed: bool,
+    times: Times,
 ) -> anyhow::Result<()> {
     let Section { name, calls } = section;
     let before = rt.process_cpu_time()?;
     let refused = make_calls(target, alloc, calls)?;
     let time = rt.process_cpu_time()?.saturating_sub(before);
     println!(rt; "{name}: {} calls, {refused} refused", calls.len())?;
-    Ok(write_time(rt, name, time, is_timed)?)
+    Ok(times.write(rt, name, time)?)
 }
 
 /// Measures each section, one after the other.
@@ -78,46 +70,46 @@ fn measure_all<R: CpuClock + Print, T: Target>(
     alloc: Global,
     target: &mut T,
     sections: &[Section],
-    is_timed: bool,
+    times: Times,
 ) -> anyhow::Result<()> {
     for section in sections {
-        measure_section(rt, alloc, target, section, is_timed)?;
+        measure_section(rt, alloc, target, section, times)?;
     }
     Ok(())
 }
 
-/// Audits the journal, and writes how many entries it has and, where that is asked for, the
+/// Audits the journal, and writes how many entries it has and, where times are written, the
 /// processor time that it took.
 fn audit<R: CpuClock + Print>(
     rt: &R,
     alloc: Global,
     token: &Token,
-    is_timed: bool,
+    times: Times,
 ) -> anyhow::Result<()> {
     let before = rt.process_cpu_time()?;
     let is_legal = audit_token(alloc, token)? == Verdict::Legal;
     let time = rt.process_cpu_time()?.saturating_sub(before);
     println!(rt; "audit of {} entries: {is_legal}", token.journal().len())?;
-    Ok(write_time(rt, "audit", time, is_timed)?)
+    Ok(times.write(rt, "audit", time)?)
 }
 
 /// Measures the sections on a new token, whose journal is audited then.
-pub(crate) fn measure_alone<R: CpuClock + Print>(
+pub(crate) fn measure_unshared<R: CpuClock + Print>(
     rt: &R,
     alloc: Global,
     sections: &[Section],
-    is_timed: bool,
+    times: Times,
 ) -> anyhow::Result<()> {
     let mut token = Token::new(alloc, Limits::largest());
-    measure_all(rt, alloc, &mut token, sections, is_timed)?;
-    audit(rt, alloc, &token, is_timed)
+    measure_all(rt, alloc, &mut token, sections, times)?;
+    audit(rt, alloc, &token, times)
 }
 
 /// What the one caller of a shared token does.
 #[derive(Drop)]
 struct AllSections<'a> {
     sections: &'a [Section<'a>],
-    is_timed: bool,
+    times: Times,
 }
 
 impl<'a, R: Wait + CpuClock + Print + AllocGlobal> CallerWork<R> for AllSections<'a> {
@@ -134,7 +126,7 @@ impl<'a, R: Wait + CpuClock + Print + AllocGlobal> CallerWork<R> for AllSections
         caller: &mut Caller<K>,
     ) -> Self::Output {
         let mut target = CallerTarget { rt, gate, caller };
-        measure_all(rt, rt.alloc(), &mut target, self.sections, self.is_timed)
+        measure_all(rt, rt.alloc(), &mut target, self.sections, self.times)
     }
 }
 
@@ -143,10 +135,10 @@ pub(crate) fn measure_locked<R: CpuClock + Print + Runtime>(
     rt: R,
     alloc: Global,
     sections: &[Section],
-    is_timed: bool,
+    times: Times,
 ) -> anyhow::Result<()> {
     let mut token = Token::new(alloc, Limits::largest());
-    let work = AllSections { sections, is_timed };
+    let work = AllSections { sections, times };
     for done in share(rt, alloc, &mut token, 1, &work)? {
         done?;
     }

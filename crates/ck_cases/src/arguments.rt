@@ -56,7 +56,7 @@ pub(crate) enum ArgumentError {
     Memory,
     #[error("error: an argument isn't text in UTF-8\n")]
     NotText,
-    #[error("{0}")]
+    #[error(transparent)]
     Command(clap::Error),
     #[error("error: invalid value for '--limits': {0}, with commas between the numbers\n")]
     Limits(LimitsError),

@@ -85,7 +85,7 @@ impl<'a> CasePlayer<'a> {
     /// Adds a line to the file that is written again.
     fn rewrite<T: fmt::Display>(&mut self, line: &T) -> Result<(), NoMemory> {
         if let Some(text) = &mut self.rewritten {
-            write!(text, "{line}\n")?;
+            writeln!(text, "{line}")?;
         }
         Ok(())
     }
@@ -173,7 +173,7 @@ impl<'a> CasePlayer<'a> {
     /// Compares what came of an action with what is recorded, or writes it in place of that.
     fn judge(&mut self, action: &str, came: &str, recorded: Option<&str>) -> Result<(), NoMemory> {
         if let Some(text) = &mut self.rewritten {
-            return Ok(write!(text, "{action}{ARROW}{came}\n")?);
+            return Ok(writeln!(text, "{action}{ARROW}{came}")?);
         }
         match recorded {
             None => {

@@ -9,7 +9,7 @@ use thiserror::Error;
 pub(crate) enum FileError {
     #[error("out of memory")]
     Memory,
-    #[error("{0}")]
+    #[error(transparent)]
     Io(io::Error),
     #[error("line {0} isn't text in UTF-8")]
     NotText(u64),

@@ -10,7 +10,7 @@ const LARGEST: &str = "largest";
 #[derive(Clone, Copy, Debug)]
 pub(crate) struct LimitsError;
 
-// By hand: in `#[error(..)]` the text and its four values would stand in one long line.
+// By hand: `rt fmt` lays out the four values of an `#[error(..)]` in one line of 250 columns.
 impl fmt::Display for LimitsError {
     fn fmt<W: fmt::Write>(&self, f: &mut fmt::Formatter<W>) -> fmt::Result {
         let largest = Limits::largest();

@@ -23,9 +23,9 @@ pub(crate) const BAD_SCRIPT: &str = "bad script: ";
 /// Why a line is no line of a case.
 #[derive(Clone, Copy, Debug, Error)]
 pub(crate) enum LineFault {
-    #[error("{0}")]
+    #[error(transparent)]
     Script(BadLine),
-    #[error("{0}")]
+    #[error(transparent)]
     Limits(LimitsError),
 }
 

@@ -88,7 +88,7 @@ impl<'a> Report<'a> {
         self.counts.count(finding);
         if self.counts.findings() <= self.most {
             let name = self.name;
-            write!(self.text, "{name}: line {number}: {finding}\n")?;
+            writeln!(self.text, "{name}: line {number}: {finding}")?;
         }
         Ok(())
     }
@@ -103,7 +103,7 @@ impl<'a> Report<'a> {
         let name = self.name;
         let more = self.counts.findings().saturating_sub(self.most);
         if more > 0 {
-            write!(self.text, "{name}: only counted: {more} more\n")?;
+            writeln!(self.text, "{name}: only counted: {more} more")?;
         }
         Ok(self.text)
     }
@@ -114,7 +114,7 @@ impl<'a> Report<'a> {
         let name = self.name;
         let counts = self.counts;
         let mut text = self.findings()?;
-        write!(text, "{name}: {counts}\n")?;
+        writeln!(text, "{name}: {counts}")?;
         Ok(text)
     }
 }
