@@ -34,12 +34,6 @@ const RUNS: u32 = 100;
 
 type AskingScript<K> = Script<K, Step, Answered>;
 
-/// Fails where something isn't as it must be.
-pub(crate) fn expect(holds: bool) -> anyhow::Result<()> {
-    ensure!(holds, "a reply, a status or a count is not what it must be");
-    Ok(())
-}
-
 /// Whether a question is answered by the reply that has this text.
 fn is_status(alloc: Global, status: &Option<Status>, wanted: &str) -> Result<bool, NoMemory> {
     Ok(match status {
@@ -54,7 +48,11 @@ pub(crate) fn check_status(
     status: &Option<Status>,
     wanted: &str,
 ) -> anyhow::Result<()> {
-    expect(is_status(alloc, status, wanted)?)
+    ensure!(
+        is_status(alloc, status, wanted)?,
+        "a question has another answer"
+    );
+    Ok(())
 }
 
 /// Asks, and checks that the answer has this text.
@@ -81,10 +79,15 @@ pub(crate) fn await_status<K: TokenId>(
     for _ in 0..MOST_ASKS {
         let status = caller.status(ask);
         if is_status(alloc, &status, later)? {
-            return expect(caller.seen() == seen.saturating_add(1));
+            let is_next = caller.seen() == seen.saturating_add(1);
+            ensure!(is_next, "a caller doesn't know one entry more");
+            return Ok(());
         }
         check_status(alloc, &status, earlier)?;
-        expect(caller.seen() == seen)?;
+        ensure!(
+            caller.seen() == seen,
+            "a caller knows more or fewer entries than at first"
+        );
     }
     bail!("a call of another caller isn't seen");
 }
@@ -98,7 +101,11 @@ fn check_before<K: TokenId>(
     check_ask(alloc, caller, Ask::Token, state)?;
     check_ask(alloc, caller, Ask::Session(1), "b3")?;
     let status = caller.status(Ask::Mechanisms);
-    expect(matches!(status, Some(Status::Mechanisms(types)) if types == mechanism_types()))
+    ensure!(
+        matches!(status, Some(Status::Mechanisms(types)) if types == mechanism_types()),
+        "the mechanisms aren't those of the token",
+    );
+    Ok(())
 }
 
 /// The login of the user.
@@ -121,11 +128,11 @@ fn check_script<K: TokenId>(alloc: Global, script: &AskingScript<K>) -> anyhow::
     for answer in script.replies() {
         match answer {
             Answered::Reply { seen, .. } => {
-                expect(known < *seen)?;
+                ensure!(known < *seen, "a caller knows no more after its call");
                 known = *seen;
             }
             Answered::Status { status, seen } => {
-                expect(known <= *seen)?;
+                ensure!(known <= *seen, "a caller knows less than before");
                 check_status(alloc, status, state_after(*seen))?;
                 known = *seen;
                 answered = answered.saturating_add(1);
@@ -153,7 +160,10 @@ fn check_learnt<K: TokenId>(
 ) -> anyhow::Result<()> {
     let caller = caller_at(callers, 1)?;
     caller.learn(news);
-    expect(caller.seen() == entries && caller.count() == 0)?;
+    ensure!(
+        caller.seen() == entries && caller.count() == 0,
+        "a caller that learns doesn't know these entries, or has made a call",
+    );
     check_ask(alloc, caller, Ask::Session(1), state_after(entries))
 }
 
@@ -180,7 +190,11 @@ fn await_login<K: TokenId>(alloc: Global, caller: &mut Caller<K>) -> anyhow::Res
         )?;
     }
     check_ask(alloc, caller, Ask::Session(1), state_after(WITH_LOGIN))?;
-    expect(caller.seen() == WITH_LOGIN && caller.count() == 0)
+    ensure!(
+        caller.seen() == WITH_LOGIN && caller.count() == 0,
+        "a caller that asks doesn't know of the login, or has made a call",
+    );
+    Ok(())
 }
 
 /// A caller sees that the user is logged in, and what is older takes nothing from it. It has made
@@ -193,7 +207,11 @@ fn check_older<K: TokenId>(
     let count = caller.count();
     check_ask(alloc, caller, Ask::Session(1), state_after(WITH_LOGIN))?;
     caller.learn(older);
-    expect(caller.seen() == WITH_LOGIN && caller.count() == count)
+    ensure!(
+        caller.seen() == WITH_LOGIN && caller.count() == count,
+        "older news takes something from a caller",
+    );
+    Ok(())
 }
 
 /// The second caller sees the login, and then learns of it. All callers know it then.
@@ -204,7 +222,10 @@ fn check_after<K: TokenId>(
 ) -> anyhow::Result<()> {
     await_login(alloc, caller_at(callers, 1)?)?;
     check_learning(alloc, callers, WITH_LOGIN)?;
-    expect(caller_at(callers, 0)?.count() == WITH_LOGIN)?;
+    ensure!(
+        caller_at(callers, 0)?.count() == WITH_LOGIN,
+        "the first caller hasn't made as many calls as there are entries",
+    );
     for caller in callers {
         check_older(alloc, caller, older)?;
     }
@@ -251,7 +272,8 @@ impl<'a, K: TokenId, R: Runtime> Shared<'a, K, R> {
     /// A caller makes a call, which is answered CKR_OK.
     pub(crate) fn make_call(&self, caller: &mut Caller<K>, call: Call) -> anyhow::Result<()> {
         let reply = self.call(caller, call)?;
-        expect(reply.rv == Rv::Ok)
+        ensure!(reply.rv == Rv::Ok, "a call is refused");
+        Ok(())
     }
 
     /// A caller initializes the token and opens session 1, which it then sees.
@@ -275,7 +297,10 @@ impl<'a, K: TokenId, R: Runtime> Shared<'a, K, R> {
         self.make_call(caller, Call::Logout { session })?;
         self.make_call(caller, user_login())?;
         self.make_call(caller, Call::Logout { session })?;
-        expect(caller.seen() == FIRST && caller.count() == FIRST)?;
+        ensure!(
+            caller.seen() == FIRST && caller.count() == FIRST,
+            "the first caller doesn't know the first calls, or doesn't count them",
+        );
         check_ask(self.rt.alloc(), caller, Ask::Token, "0 40c 64 1 1")
     }
 
@@ -303,7 +328,11 @@ impl<'a, K: TokenId, R: Runtime> Shared<'a, K, R> {
         self.make_call(caller_at(callers, 0)?, user_login())?;
         let second = caller_at(callers, 1)?;
         await_status(alloc, second, ask, public, user)?;
-        expect(second.seen() == ALL && second.count() == 1)
+        ensure!(
+            second.seen() == ALL && second.count() == 1,
+            "the second caller doesn't know all entries, or hasn't made one call",
+        );
+        Ok(())
     }
 
     /// One caller logs in while another asks. Before the first call this is answered about the
@@ -338,7 +367,7 @@ fn run_once<R: Runtime>(rt: R, callers: u32, token: Token, state: &str) -> anyho
     let alloc = rt.alloc();
     let work = SharedWork::LoginAndAsks(state);
     let (token, outcome) = share_with(rt, token, callers, &work)?;
-    expect(token.journal().len() == ALL)?;
+    ensure!(token.journal().len() == ALL, "not an entry for each call");
     check_audit(alloc, &token)?;
     Ok(outcome.answered)
 }

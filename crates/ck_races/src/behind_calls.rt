@@ -1,9 +1,8 @@
 //! A long message that is taken in before its call counts, although another caller has made a call
 //! since: its bytes aren't taken in once more under the lock.
-use crate::asks::expect;
 use crate::journals::check_audit;
 use crate::shared_work::{Shared, SharedWork, share_timed};
-use anyhow::{Context, bail};
+use anyhow::{Context, bail, ensure};
 use ck_shared::{Caller, Runtime, TokenId};
 use ck_token::{Bytes, Call, Limits, Mechanism, Pin, READ_WRITE, Rv, SHA256, Token};
 use std::alloc::Global;
@@ -51,7 +50,11 @@ impl<'a, K: TokenId, R: Runtime> Shared<'a, K, R> {
         let reply = self
             .token
             .call_after(self.rt, alloc, caller, call, message)?;
-        expect(reply.rv == Rv::Ok)
+        ensure!(
+            reply.rv == Rv::Ok,
+            "a call behind one of another caller is refused"
+        );
+        Ok(())
     }
 
     /// The first of two callers makes the calls with the messages, each after a call of the other.
@@ -68,7 +71,7 @@ impl<'a, K: TokenId, R: Runtime> Shared<'a, K, R> {
 }
 
 /// What the calls take of the processor on a token that isn't shared.
-fn time_alone<R: CpuClock + Runtime>(rt: &R) -> anyhow::Result<Duration> {
+fn time_unshared<R: CpuClock + Runtime>(rt: &R) -> anyhow::Result<Duration> {
     let alloc = rt.alloc();
     let mut token = Token::new(alloc, Limits::largest());
     let before = rt.process_cpu_time()?;
@@ -89,9 +92,9 @@ fn time_behind<R: CpuClock + Runtime>(rt: R) -> anyhow::Result<(Duration, u64)> 
 /// isn't shared. If the messages were taken in twice, it would be twice. Says how many there are.
 pub(crate) fn run_behind_calls<R: CpuClock + Runtime>(rt: R) -> anyhow::Result<u64> {
     for _ in 0..TRIES {
-        let alone = time_alone(&rt)?;
+        let unshared = time_unshared(&rt)?;
         let (time, calls) = time_behind(rt)?;
-        if time.saturating_mul(2) < alone.saturating_mul(3) {
+        if time.saturating_mul(2) < unshared.saturating_mul(3) {
             return Ok(calls);
         }
     }

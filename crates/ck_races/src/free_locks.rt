@@ -1,8 +1,8 @@
 //! While one caller adds long messages to a digest, the lock is free: another takes it again and
 //! again.
-use crate::asks::expect;
 use crate::gates::LockingGate;
 use crate::shared_work::Shared;
+use anyhow::ensure;
 use ck_shared::{Caller, Runtime, TokenId};
 use ck_token::{Bytes, Call};
 use std::alloc::Global;
@@ -38,6 +38,10 @@ impl<'a, K: TokenId + Send + Sync, R: Runtime> Shared<'a, K, R> {
         let alloc = self.rt.alloc();
         let gate = LockingGate::new(self.token, MESSAGES);
         self.run_at(&gate, callers, |caller| calls_of(alloc, caller))?;
-        expect(gate.locks() >= LEAST_LOCKS)
+        ensure!(
+            gate.locks() >= LEAST_LOCKS,
+            "the lock is seldom free while messages are added",
+        );
+        Ok(())
     }
 }

@@ -1,6 +1,6 @@
 //! Gates before a shared token. They hold calls until others have come, do some work before a call,
 //! or hold the lock.
-use crate::orders::CallOrder;
+use crate::orders::{CallOrder, LONGEST_SLEEP, MOST_LOOKS};
 use ck_shared::{Caller, Gate, SharedToken, TokenId};
 use ck_token::{Call, JournaledToken, NoMemory, Reply};
 use std::alloc::Global;
@@ -10,12 +10,6 @@ use std::time::Duration;
 
 /// How many times a `LockingGate` takes the lock at most.
 const MOST_LOCKS: u64 = 100_000_000;
-
-/// How many times a caller looks whether the other has taken the lock.
-const MOST_LOOKS: u32 = 1_000_000;
-
-/// How long it sleeps between two looks, in microseconds.
-const LONGEST_SLEEP: u64 = 20;
 
 /// How long a `HoldingGate` holds the lock, in milliseconds.
 const HELD: u64 = 500;

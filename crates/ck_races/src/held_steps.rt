@@ -1,7 +1,7 @@
 //! Each of two callers opens a session and then asks how many are open, by `run_steps`. The call of
 //! one is held until that of the other is answered: where the lists were taken one after the other,
 //! it would come too late. The one that was first sees the other's session by asking only.
-use crate::asks::{await_status, check_ask, check_status, expect};
+use crate::asks::{await_status, check_ask, check_status};
 use crate::gates::HeldGate;
 use crate::journals::check_audit;
 use crate::orders::CallOrder;
@@ -41,7 +41,11 @@ fn steps(alloc: Global) -> anyhow::Result<Vec<Step>> {
 
 /// The reply of the entry of this number gives the handle of that number.
 fn check_reply(reply: &Reply, entry: u64) -> anyhow::Result<()> {
-    expect(matches!((&reply.rv, &reply.body), (Rv::Ok, Body::Handle(handle)) if *handle == entry))
+    ensure!(
+        matches!((&reply.rv, &reply.body), (Rv::Ok, Body::Handle(handle)) if *handle == entry),
+        "a call is refused, or its handle isn't the number of its entry",
+    );
+    Ok(())
 }
 
 /// What was answered to a step agrees with its number.
@@ -61,7 +65,10 @@ fn check_script<K: TokenId>(
 ) -> anyhow::Result<u64> {
     check_taken(script)?;
     let answers = script.replies();
-    expect(matches!(answers.first(), Some(Answered::Reply { seen, .. }) if *seen == entry))?;
+    ensure!(
+        matches!(answers.first(), Some(Answered::Reply { seen, .. }) if *seen == entry),
+        "the first step isn't a call, or its entry isn't the one that it must be",
+    );
     for answer in answers {
         check_answer(alloc, answer)?;
     }
@@ -94,9 +101,10 @@ impl<'a, K: TokenId, R: Runtime> Shared<'a, K, R> {
         if caller.seen() == 1 {
             await_status(alloc, caller, Ask::Token, info_after(1), info_after(2))?;
         }
-        self.call(caller, Call::GetTokenInfo)?;
+        self.make_call(caller, Call::GetTokenInfo)?;
         check_ask(alloc, caller, Ask::Token, info_after(2))?;
-        expect(caller.count() == 2)
+        ensure!(caller.count() == 2, "a caller hasn't made two calls");
+        Ok(())
     }
 
     /// Each of two callers opens a session, this one first, and then asks. Says how many of these

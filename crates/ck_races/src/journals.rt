@@ -83,14 +83,13 @@ pub(crate) fn check_order(
 /// Compares the replies with those of the lines, up to the first entry of another caller. Says
 /// whether there is no such entry.
 fn check_in_order(alloc: Global, lines: &[RaceLine], journal: &Journal) -> anyhow::Result<bool> {
-    let mut is_in_order = true;
     for (entry, line) in journal.iter().zip(lines) {
-        is_in_order = is_in_order && entry.caller == line.caller;
-        if is_in_order {
-            compare(alloc, line, &entry.reply)?;
+        if entry.caller != line.caller {
+            return Ok(false);
         }
+        compare(alloc, line, &entry.reply)?;
     }
-    Ok(is_in_order)
+    Ok(true)
 }
 
 /// Checks that each line has its entry, with its reply.

@@ -1,5 +1,5 @@
 //! What judges the runs is judged first: it must refuse what is wrong, or a run says nothing.
-use crate::asks::{check_status, expect};
+use crate::asks::check_status;
 use crate::journals::{
     CallerReplies, check_entries, check_in_any_order, check_number, check_order, check_replies,
 };
@@ -54,7 +54,6 @@ fn judge_wrong(alloc: Global) -> anyhow::Result<Vec<anyhow::Result<()>>> {
     };
     let journal = token.journal();
     Ok(vec![in alloc;
-        expect(false),
         check_status(alloc, &None, "0"),
         check_number(0, 2),
         check_replies(journal, exchanged),

@@ -1,9 +1,9 @@
 //! A caller makes calls under one lock, while another is answered without it. Then both callers are
 //! lost, and the token is taken back without them.
-use crate::asks::{check_ask, expect};
+use crate::asks::check_ask;
 use crate::journals::check_audit;
 use crate::shared_work::{Shared, SharedWork, share_with};
-use anyhow::Context;
+use anyhow::{Context, ensure};
 use ck_shared::{Ask, Caller, Runtime, TokenId};
 use ck_token::{Call, Limits, Pin, READ_WRITE, Token};
 
@@ -21,10 +21,19 @@ impl<'a, K: TokenId, R: Runtime> Shared<'a, K, R> {
         let pin = Pin::of(b"1234");
         let flags = READ_WRITE;
         let mut locked = self.token.lock(rt);
-        locked.step(rt, alloc, caller, Call::InitToken { pin })?;
-        locked.step(rt, alloc, caller, Call::OpenSession { flags })?;
-        locked.step(rt, alloc, caller, Call::OpenSession { flags })?;
-        expect(locked.token().journal().len() == LOCKED)?;
+        locked
+            .step(rt, alloc, caller, Call::InitToken { pin })?
+            .ok()?;
+        locked
+            .step(rt, alloc, caller, Call::OpenSession { flags })?
+            .ok()?;
+        locked
+            .step(rt, alloc, caller, Call::OpenSession { flags })?
+            .ok()?;
+        ensure!(
+            locked.token().journal().len() == LOCKED,
+            "not an entry for each call under the lock",
+        );
         check_ask(alloc, other, Ask::Token, "0 404 64 2 2")
     }
 
@@ -33,8 +42,11 @@ impl<'a, K: TokenId, R: Runtime> Shared<'a, K, R> {
         let mut other = callers.pop().context("a caller is missing")?;
         let caller = callers.first_mut().context("a caller is missing")?;
         self.open_under_lock(caller, &mut other)?;
-        self.call(&mut other, Call::CloseAllSessions)?;
-        expect(caller.count() == LOCKED && other.count() == 1 && other.seen() == ALL)?;
+        self.make_call(&mut other, Call::CloseAllSessions)?;
+        ensure!(
+            caller.count() == LOCKED && other.count() == 1 && other.seen() == ALL,
+            "a caller doesn't count its calls, or doesn't know all entries",
+        );
         callers.push(other)?;
         Ok(())
     }
@@ -46,13 +58,14 @@ pub(crate) fn run_locked_calls<R: Runtime>(rt: R) -> anyhow::Result<u64> {
     let alloc = rt.alloc();
     let token = Token::new(alloc, Limits::largest());
     let (token, _outcome) = share_with(rt, token, 2, &SharedWork::CallsUnderLock)?;
-    expect(token.journal().len() == ALL)?;
-    expect(
+    ensure!(token.journal().len() == ALL, "not an entry for each call");
+    ensure!(
         token
             .journal()
             .iter()
             .map(|entry| entry.caller)
             .eq([1, 1, 1, 2]),
-    )?;
+        "the entries aren't in the order in which the callers had the lock",
+    );
     check_audit(alloc, &token)
 }

@@ -1,9 +1,8 @@
 //! A long message is taken in before its call where an operation takes it, and else not; and while
 //! it is, the lock is free.
-use crate::asks::expect;
 use crate::journals::check_audit;
 use crate::shared_work::{Shared, SharedWork, share_with};
-use anyhow::Context;
+use anyhow::{Context, ensure};
 use ck_shared::{Caller, Runtime, TokenId};
 use ck_token::{Bytes, Call, Limits, Mechanism, NoMemory, Pin, READ_WRITE, SHA256, Token};
 
@@ -26,10 +25,21 @@ impl<'a, K: TokenId, R: Runtime> Shared<'a, K, R> {
         let caller = callers.first_mut().context("a caller is missing")?;
         self.make_call(caller, Call::InitToken { pin })?;
         self.make_call(caller, Call::OpenSession { flags })?;
-        expect(!self.is_taken_in(&[97; LONG])?)?;
+        ensure!(
+            !self.is_taken_in(&[97; LONG])?,
+            "a message is taken in before its operation is begun",
+        );
         let session = 1;
         self.make_call(caller, Call::DigestInit { session, mechanism })?;
-        expect(self.is_taken_in(&[97; LONG])? && !self.is_taken_in(&[97; LONG - 1])?)
+        ensure!(
+            self.is_taken_in(&[97; LONG])?,
+            "a long message isn't taken in"
+        );
+        ensure!(
+            !self.is_taken_in(&[97; LONG - 1])?,
+            "a short message is taken in",
+        );
+        Ok(())
     }
 }
 

@@ -68,7 +68,7 @@ use watched::run_watched;
 
 /// Adds a line: how many of these there were, and what came of them.
 fn add_line(text: &mut String, what: &str, count: u64, end: &str) -> Result<(), AllocError> {
-    write!(text, "{what}: {count} {end}\n")
+    writeln!(text, "{what}: {count} {end}")
 }
 
 /// What callers do at once, besides races, once the judges of it are seen to refuse what is wrong.

@@ -6,12 +6,12 @@ use std::sync::Wait;
 use std::sync::atomic::{AtomicU64, Ordering};
 use std::time::Duration;
 
-/// How many times a held call looks whether it is the next one. It looks when another call has come
-/// to the gate or was made, and after `LONGEST_SLEEP` at the latest.
-const MOST_LOOKS: u32 = 1_000_000;
+/// How many times a thread that waits for another looks at most. A held call looks when another has
+/// come to the gate or was made, and after `LONGEST_SLEEP` at the latest.
+pub(crate) const MOST_LOOKS: u32 = 1_000_000;
 
-/// The longest that a held call sleeps before it looks again, in microseconds.
-const LONGEST_SLEEP: u64 = 20;
+/// The longest that a thread sleeps before it looks again, in microseconds.
+pub(crate) const LONGEST_SLEEP: u64 = 20;
 
 /// The count of made calls once a call has waited too long. No order has as many calls, so none is
 /// held any more.

@@ -1,10 +1,9 @@
 //! Whoever waits for the lock sleeps after a while: while one caller has it for long, the call of
 //! another takes hardly any processor time.
-use crate::asks::expect;
 use crate::gates::HoldingGate;
 use crate::journals::{CallerReplies, check_audit, check_replies};
 use crate::shared_work::{Shared, SharedWork, share_timed};
-use anyhow::bail;
+use anyhow::{bail, ensure};
 use ck_shared::{Caller, Runtime, TokenId};
 use ck_token::Call;
 use std::alloc::Global;
@@ -40,7 +39,10 @@ impl<'a, K: TokenId + Send + Sync, R: Runtime> Shared<'a, K, R> {
 fn time_calls<R: CpuClock + Runtime>(rt: R) -> anyhow::Result<(Duration, u64)> {
     let (time, token, outcome) = share_timed(rt, &SharedWork::CallBesideLock)?;
     let journal = token.journal();
-    expect(journal.iter().map(|entry| entry.caller).eq([1, 2]))?;
+    ensure!(
+        journal.iter().map(|entry| entry.caller).eq([1, 2]),
+        "the entries aren't in the order in which the callers had the lock",
+    );
     check_replies(journal, outcome.replies)?;
     Ok((time, check_audit(rt.alloc(), &token)?))
 }

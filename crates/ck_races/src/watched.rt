@@ -3,12 +3,11 @@
 //! a call that may change the board reads it.
 ghost use Rattle.std.specs.Prelude.{◌≡◌};
 
-use crate::asks::expect;
 use crate::journals::{check_audit, check_entries, check_replies, in_order_of_callers};
 use crate::orders::CallOrder;
 use crate::races::races_in;
 use crate::runs::OrderedCalls;
-use anyhow::Context;
+use anyhow::{Context, ensure};
 use ck_shared::{Runtime, share};
 use ck_token::{
     Base, Call, Journal, JournaledToken, Limits, NoMemory, Reply, Token, TokenBoard, Work,
@@ -114,9 +113,15 @@ pub(crate) fn run_watched<R: Runtime>(rt: R) -> anyhow::Result<u64> {
     let all = share(rt, alloc, &mut token, 1, &calls)?;
     check_replies(token.journal(), in_order_of_callers(alloc, all)?)?;
     check_entries(alloc, &race.lines, token.journal())?;
-    expect(token.works.load(Ordering::SeqCst) == 1)?;
-    expect(token.worked.load(Ordering::SeqCst) == 1)?;
+    let begun = token.works.load(Ordering::SeqCst);
+    ensure!(
+        begun == 1,
+        "the token isn't asked exactly once to begin work"
+    );
+    let brought = token.worked.load(Ordering::SeqCst);
+    ensure!(brought == 1, "work isn't brought to a call exactly once");
     // Once where the token is shared, and by the two calls that may change the board.
-    expect(token.boards.load(Ordering::SeqCst) == 3)?;
+    let read = token.boards.load(Ordering::SeqCst);
+    ensure!(read == 3, "the board isn't read exactly three times");
     check_audit(alloc, &token.token)
 }
