@@ -15,15 +15,30 @@ use ck_token::{
 use std::alloc::Global;
 use std::sync::atomic::{AtomicU64, Ordering};
 
-/// What the one caller does: two short calls that change the board, two that don't, and one with a
-/// long message.
-const FIVE_CALLS: &str = "\
+/// How many calls with long messages the caller makes, one of each kind.
+const LONG_CALLS: u64 = 6;
+
+/// What the one caller does: two short calls that change the board, nine that don't, and one call of
+/// each kind that brings a long message.
+const CALLS: &str = "\
 race
 1 InitToken 31323334 -> 0
 1 OpenSession 6 -> 0 1
-1 DigestInit 1 250 -> 0
+1 CreateObject 1 0=0400000000000000,100=1000000000000000,11=4a656665,2=00 -> 0 1
 1 GetTokenInfo -> 0 404 64 1 1
+1 DigestInit 1 250 -> 0
+1 SignInit 1 251 1 -> 0
+1 VerifyInit 1 251 1 -> 0
 1 DigestUpdate 1 61*4096 -> 0
+1 SignUpdate 1 61*4096 -> 0
+1 VerifyUpdate 1 61*4096 -> 0
+1 SessionCancel 1 2c00 -> 0
+1 DigestInit 1 250 -> 0
+1 SignInit 1 251 1 -> 0
+1 VerifyInit 1 251 1 -> 0
+1 Digest 1 61*4096 32 -> 0 c93eee2d0db02f10acc7460d9576e122dcf8cd53c4bf8dfcae1b3e74ebcfff5a
+1 Sign 1 61*4096 32 -> 0 404e027be6c5aff6a052f246c997bb0d24715b7e38951d2105d893b948ddd995
+1 Verify 1 61*4096 404e027be6c5aff6a052f246c997bb0d24715b7e38951d2105d893b948ddd995 -> 0
 ";
 
 /// A token that counts how it is used.
@@ -102,7 +117,7 @@ impl JournaledToken for WatchedToken {
 /// Makes the calls on a new token. Says how many there are.
 pub(crate) fn run_watched<R: Runtime>(rt: R) -> anyhow::Result<u64> {
     let alloc = rt.alloc();
-    let races = races_in(alloc, FIVE_CALLS)?;
+    let races = races_in(alloc, CALLS)?;
     let race = races.first().context("the calls are missing")?;
     let order = CallOrder::new(&[]);
     let calls = OrderedCalls {
@@ -115,11 +130,14 @@ pub(crate) fn run_watched<R: Runtime>(rt: R) -> anyhow::Result<u64> {
     check_entries(alloc, &race.lines, token.journal())?;
     let begun = token.works.load(Ordering::SeqCst);
     ensure!(
-        begun == 1,
-        "the token isn't asked exactly once to begin work"
+        begun == LONG_CALLS,
+        "the token isn't asked exactly once to begin work for each long message"
     );
     let brought = token.worked.load(Ordering::SeqCst);
-    ensure!(brought == 1, "work isn't brought to a call exactly once");
+    ensure!(
+        brought == LONG_CALLS,
+        "work isn't brought to each call with a long message"
+    );
     // Once where the token is shared, and by the two calls that may change the board.
     let read = token.boards.load(Ordering::SeqCst);
     ensure!(read == 3, "the board isn't read exactly three times");
