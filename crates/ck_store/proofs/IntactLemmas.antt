@@ -555,7 +555,7 @@ module _ (objects : Slab ObjectRow) (index : List Place) (lists lists' : List Se
     | inr added ↦
         inr (
           subst (λ (x : Place). x.number ≤ creations) (sym added.2)
-            (intact.unlisted_created p refl),
+              (intact.unlisted_created p refl),
           λ row is.
               let here = ap (object_at objects) (sym added.2) ∙ is in
               record {
