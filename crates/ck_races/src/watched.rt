@@ -18,8 +18,8 @@ use std::sync::atomic::{AtomicU64, Ordering};
 /// How many calls with long messages the caller makes, one of each kind.
 const LONG_CALLS: u64 = 6;
 
-/// What the one caller does: two short calls that change the board, nine that don't, and one call of
-/// each kind that brings a long message.
+/// What the one caller does: two short calls that change the board, nine that don't, and one call
+/// of each kind that brings a long message.
 const CALLS: &str = "\
 race
 1 InitToken 31323334 -> 0
