@@ -284,7 +284,7 @@ def checks_of_file(library, path, step):
 def checks_of_races(library, races, step):
     for number, lines in races:
         name = f"{os.path.basename(RACES_DATA)}, line {number}"
-        yield check_case, library, [RACES, "alone"], name, lines, 1, step
+        yield check_case, library, [RACES, "in-turn"], name, lines, 1, step
     if races:
         yield check_reserved, library
 

@@ -25,7 +25,7 @@ clauses name; they stand in the `specs` folders.
 
 # The example of ck_token: the file in which it is run by a test, and those that show it, each with
 # what stands before its lines there.
-EXAMPLE = ("crates/ck_run/src/signing.rt", "")
+EXAMPLE = ("crates/ck_run/src/tests/signing.rt", "")
 SHOWN = [("crates/ck_token/src/lib.rt", "//! "), ("docs/rust.md", "    ")]
 
 FUNCTION = re.compile(

@@ -37,8 +37,8 @@ static void pause_for(int count) {
         __builtin_ia32_pause();
 }
 
-/* Lets other threads run for some 10 us. A yield takes less than one where no other thread wants
- * the processor, and long where many do, so the time counts and not the yields. */
+/* Lets other threads run for some 10 microseconds. A yield takes less than one where no other
+ * thread wants the processor, and long where many do, so the time counts and not the yields. */
 static void let_others_run(void) {
     enum { TICKS = 25000 };
     uint64_t begin = __builtin_ia32_rdtsc();

@@ -14,6 +14,7 @@
 enum { MOST_READ = 4096 };
 
 static const char too_long[] = "a line has at most 4194304 bytes";
+_Static_assert(LONGEST_LINE == 4194304, "too_long says how long a line may be");
 
 static bool report_line(const struct source *source, const char *reason) {
     return report(source->variable, "%s, line %zu: %s", source->path, source->number, reason);

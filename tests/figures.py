@@ -41,6 +41,10 @@ MOST_OF_AUDIT = 8
 # other work, with which caches are shared. A run without times isn't tried again.
 RUNS = 6
 
+# How often callers ask while the longest histories grow: by three calls for each 25 questions, and
+# behind them each caller asks once more.
+ASKS = 1_700_000
+
 # How many rounds a section of single calls has, and how many times it stands there.
 ROUNDS = 1_000
 TIMES = 10
@@ -196,11 +200,11 @@ def readings_of_module(tests):
 # ---- What the built ck_bench says
 
 
-def times_of_sections(text, way):
+def times_of_sections(text, *way):
     """The times that it writes of sections and of an audit, none where something is wrong."""
     with mock.patch.multiple(measure, FIGURES_PROGRAM=BENCH, FIGURE_RUNS=1):
         try:
-            return measure.times_of(text, way)
+            return measure.times_of(text, *way)
         except SystemExit:
             return {}
 
@@ -225,6 +229,14 @@ def times_of_calls(tests):
                 break
         tests.expect(is_right, f"{way}, ns of {FEW} calls, {MANY} calls and an entry: {times}")
     tests.end("times of few calls and of many, by the built ck_bench")
+
+
+def asks_behind_many_calls(tests):
+    """Callers are answered without the lock behind 200,000 calls, too."""
+    times = times_of_sections("", "threads", str(ASKS))
+    names = {name for where, name in FIGURES if where == "threads"}
+    tests.expect(set(times) == names, f"not all tasks of callers are done: {times}")
+    tests.end("questions behind many calls, by the built ck_bench")
 
 
 # ---- What is judged
@@ -354,6 +366,7 @@ def main(path):
     readings(tests)
     readings_of_module(tests)
     times_of_calls(tests)
+    asks_behind_many_calls(tests)
     bounds(tests)
     bounds_of_module(tests)
     sections(tests)

@@ -4,11 +4,12 @@
 No check can go or change without a line of inventory.txt, beside this file, that shows it. For the
 text of each file that checks the list has a digest: definitions that the contracts cite, edits that
 the prover must refuse, files of recorded calls and of races, files of programs, crates.txt and
-HANDLES, and the tests themselves. And it names the checks by their kinds, so that a reader sees
-which are gone: tests of the crates, of the scripts and of the module, crates, comparisons in
-constant time, types that can be shown, and the lines by which `check` and module/tests/run start
-them, with their loops and the packages that `check` installs. Of each file of a crate it has how
-many clauses its functions have, private ones too, so that none is dropped unseen.
+HANDLES, the module's headers, whose conditions the compiler checks, and the tests themselves. And
+it names the checks by their kinds, so that a reader sees which are gone: tests of the crates, of
+the scripts and of the module, crates, comparisons in constant time, types that can be shown, and
+the lines by which `check` and module/tests/run start them, with their loops and the packages that
+`check` installs. Of each file of a crate it has how many clauses its functions have, private ones
+too, so that none is dropped unseen.
 
 With the word `check`, or none, this compares the list with what is there, and looks whether the
 edits fit the sources and the files are as they are named elsewhere; the status is 1 where something
@@ -54,6 +55,7 @@ LAW_EDIT = re.compile(r"^\|[^|]*\| `(\w+)` \|", re.MULTILINE)
 COMMENT = re.compile(r"""//[^\n]*|/\*.*?\*/|"(?:[^"\\]|\\.)*"|'(?:[^'\\\n]|\\.)'""", re.DOTALL)
 RUST_TEST = re.compile(r"#\[test\]\s*(?:#\[[^\]]*\]\s*)*(?:pub(?:\([a-z]+\))? )?fn (\w+)")
 TEST_MODULE = re.compile(r"#\[cfg\(test\)\]\s*(?:pub(?:\([a-z]+\))? )?mod (\w+)")
+MODULE = re.compile(r"^(?:pub(?:\([a-z]+\))? )?mod (\w+);", re.MULTILINE)
 # Attributes by which a test may not be run, or may pass where it fails: all except that of a module
 # of tests.
 HINDRANCE = re.compile(r"#!?\[(?!cfg\(test\)\])\s*(?:cfg\w*|ignore|should_panic)\b[^\n]*")
@@ -81,6 +83,9 @@ CRATES_OF_TESTS = ("ck_bench", "ck_cases", "ck_races", "ck_run", "ck_threads")
 OTHER_TESTS = (
     "module/tests/*", "bench/*", "tests/*.py", "check", ".ci/run", "docs/contracts.py",
     "crates.txt", "HANDLES")
+
+# The pages with tables of what is promised: laws, clauses, and what users of the module meet.
+PAGES_OF_PROMISES = ("docs/laws.md", "docs/proofs.md", "docs/module.md")
 
 # The lines by which a script finds and counts what has failed; with the last one it ends.
 VERDICTS = {
@@ -118,12 +123,17 @@ def folders(pattern):
     return matching(pattern, os.path.isdir)
 
 
+def digest_of(content):
+    """The front of a digest."""
+    return hashlib.sha256(content).hexdigest()[:DIGITS]
+
+
 def with_digests(paths):
     """Files, each with the front of the digest of its text."""
     listed = []
     for path in paths:
         with open(os.path.join(ROOT, path), "rb") as file:
-            listed.append(f"{path} {hashlib.sha256(file.read()).hexdigest()[:DIGITS]}")
+            listed.append(f"{path} {digest_of(file.read())}")
     return listed
 
 
@@ -144,8 +154,13 @@ def crate_tests():
 
 
 def test_modules():
-    """The modules that are there for tests only, each with the file that names it."""
-    return [f"{path} {name}" for path in sources() for name in TEST_MODULE.findall(code_of(path))]
+    """The modules that are there for tests only, and those inside them, each with the file that
+    names it."""
+    outer = [(path, name) for path in sources() for name in TEST_MODULE.findall(code_of(path))]
+    below = [os.path.join(os.path.dirname(path), f"{name}.rt") for path, name in outer]
+    inner = [(path, name) for path in set(below) & set(sources())
+             for name in MODULE.findall(code_of(path))]
+    return [f"{path} {name}" for path, name in outer + inner]
 
 
 def comparisons():
@@ -198,8 +213,20 @@ def c_files():
     return files("module/tests/*.c") + files("bench/*.c")
 
 
+def rows_of_pages():
+    """The rows of tables on pages that say what is promised, each by its first cell and with the
+    front of the digest of its text."""
+    rows = [(page, line) for page in PAGES_OF_PROMISES for line in text_of(page).split("\n")
+            if line.startswith("| ")]
+    return [f"{page} {line.split(' | ')[0][2:]} {digest_of(line.encode())}" for page, line in rows]
+
+
 def sources_in_c():
     return files("module/*.c")
+
+
+def headers_in_c():
+    return files("module/*.h")
 
 
 def c_tests():
@@ -291,6 +318,8 @@ def inventory():
         "races": with_digests(files("crates/*/data/*.races")),
         "test in C": c_tests(),
         "entry in C": c_entries(),
+        "header in C": with_digests(headers_in_c()),
+        "row of a page": rows_of_pages(),
         "function in Python": python_functions(),
         "client": clients(),
         "part of check": commands_of("check", PART),
@@ -450,8 +479,9 @@ def module_faults():
     for path in sorted({it.split()[0] for it in crate_tests()}):
         folder, name = os.path.split(path)
         name = name[:-len(".rt")]
-        if not {f"{folder}/main.rt {name}", f"{folder}/lib.rt {name}"} & modules:
-            yield f"{path} has tests, and no #[cfg(test)] mod {name} names it"
+        outer = (f"{folder}/main.rt", f"{folder}/lib.rt", f"{folder}.rt")
+        if not {f"{file} {name}" for file in outer} & modules:
+            yield f"{path} has tests, and no module for tests only names it"
 
 
 def hindrance_faults():

@@ -41,30 +41,50 @@ WRONG = {
     "other arguments": 'right=$1; exec "$right" none',
 }
 
-# Scripts that run the right program, except where something is given that one test only gives: so
-# many callers, and a line that fills the longest one.
+# How many calls program.py makes here where it makes many, so that it doesn't take long.
+FEW_CALLS = 1_000
+
+# Scripts that run the right program, except where something is given or comes that is so in one
+# test only: so many callers, a line that fills the longest one, a long parameter, a reply with many
+# handles or many answers, many calls, and a packet.
 NO_ROOM = '{ echo "ck_run: out of memory" >&2; exit 3; }'
+WITH_INPUT = ('right=$1; input=$(mktemp); trap \'rm "$input"\' EXIT; cat > "$input"; '
+              f'%s || {NO_ROOM}; "$right" < "$input"')
 WRONG_FOR_ONE = [
     *((program.callers, f'case "$*" in *--callers*{count}) exit 3;; esac; {RIGHT}')
       for count in (5, 6, 7)),
-    (program.long_lists, 'right=$1; input=$(mktemp); trap \'rm "$input"\' EXIT; cat > "$input"; '
-     f'[ "$(wc -c < "$input")" -lt 4000000 ] || {NO_ROOM}; "$right" < "$input"'),
+    (program.long_lists, WITH_INPUT % '[ "$(wc -c < "$input")" -lt 4000000 ]'),
+    (program.long_lists, WITH_INPUT % '! grep -q "^1 DigestInit 1 250:00" "$input"'),
+    *((program.long_replies, f'"$1" | awk \'/{front}/ {{ exit 3 }} {{ print }}\'')
+      for front in ("^0 1,2,", "^0 :0,:0,")),
+    (program.long_history, f'head -n {5 * FEW_CALLS} | "$1"'),
+    (program.packets, 'right=$1; shift; dd bs=64 status=none | "$right" "$@"'),
 ]
 
 # The tests of each program, with the class that keeps what comes of them.
 TESTS = {program: program.Tests, rules: program.Tests, recorded_runs: recorded_runs.Files,
          races: recorded_runs.Files, figures: program.Tests}
 
-# A program whose call of number n takes n * n steps; and how many objects speed.py then makes, and
-# searches among the few, so that it doesn't take long.
+# A program whose call of number n takes n * n steps, and one that takes as many steps for few calls
+# as for many; and how many objects speed.py then makes, and searches, so that it doesn't take long.
 SLOW = "exec awk '{ for (i = 0; i < NR * NR; i++) x += i; print 0 }'"
-FEW_OBJECTS = (10, 40, 40)
+SLOW_AMONG_FEW = "exec awk 'END { for (i = 0; i < 300000; i++) x += i } { print 0 }'"
+FEW_OBJECTS = {"FEWER": 3, "FEW": 10, "MANY": 40, "MOST": 50, "SEARCHES": 40,
+               "SEARCHES_OF_MOST": 40, "MOST_TRIES": speed.TRIES}
+
+# Times of ever more, and whether they grow as they should; and of calls, of these with searches by a
+# label, and with others, and whether those by a label are fast.
+GROWING_TIMES = [((1, 2.1), True), ((1, 7.9, 62), True), ((1, 2), False), ((1, 8), False),
+                 ((4, 4), False), ((1, 4, 8), False), ((2, 4, 16), False)]
+TIMES_OF_SEARCHES = [((1, 1.9, 4), True), ((1, 1, 1.1), True), ((1, 2, 4), False),
+                     ((1, 4, 4), False)]
 
 # Tests in which a right program writes nothing there, so that they pass on one that never does.
 SILENT = {
     "nothing on standard output": [program.readers, races.each_wrong_reply, races.wrong_in_parts,
                                    races.bad_lines, races.bad_files],
-    "nothing on standard error": [program.dialogue, program.long_lists, program.side_by_side,
+    "nothing on standard error": [program.dialogue, program.long_lists, program.long_replies,
+                                  program.long_history, program.packets, program.side_by_side,
                                   program.many_changes, program.seldom_asleep,
                                   recorded_runs.reports,
                                   recorded_runs.limits_of_first_case, recorded_runs.long_texts,
@@ -78,10 +98,12 @@ SILENT = {
 
 # Tests of a file, to which it is all the same which program is there.
 OTHERS = (races.shapes, rules.limits, rules.checks_of_calls, rules.codes, rules.reasons,
-          rules.statuses, rules.names_of_mechanisms, rules.names_of_arguments,
-          rules.functions_of_programs, rules.laws, rules.races_of_threads, rules.sketch_of_call,
-          rules.numbers_of_pages, figures.readings, figures.readings_of_module,
-          figures.times_of_calls, figures.bounds, figures.bounds_of_module, figures.sections)
+          rules.statuses, rules.statuses_of_cases, rules.names_of_mechanisms,
+          rules.names_of_arguments, rules.functions_of_programs, rules.functions_without_clauses,
+          rules.laws, rules.races_of_threads, rules.sketch_of_call, rules.numbers_of_pages,
+          figures.readings, figures.readings_of_module, figures.times_of_calls,
+          figures.asks_behind_many_calls, figures.bounds, figures.bounds_of_module,
+          figures.sections)
 
 # What a program of figures says of few calls, of many and of an audit, and whether the times can be
 # those of the calls and of the audit.
@@ -152,6 +174,9 @@ PAGES = [
     (rules.reasons, "script.md", r"^\| a tab .*\n", ""),
     (rules.statuses, "script.md", r"^\| 3 \| reading failed ", "| 2 | reading failed "),
     (rules.statuses, "script.md", r"^\| 3 \| reading failed .*\n", ""),
+    (rules.statuses_of_cases, "recorded_runs.md", r"^\| 1 (.*\n)\| 2 ", r"| 2 \1| 1 "),
+    (rules.statuses_of_cases, "recorded_runs.md", r"^(\| 0 .*), or have no reply", r"\1"),
+    (rules.statuses_of_cases, "recorded_runs.md", r"^\| 2 \| bad arguments.*\n", ""),
     (rules.names_of_mechanisms, "rust.md", "250, 260, 270", "260, 250, 270"),
     (rules.names_of_mechanisms, "rules.md", "251 CKM_SHA256_HMAC ", "251 CKM_SHA384_HMAC "),
     (rules.names_of_arguments, "rust.md", r"\| 4, 2, 6 \|", "| 2, 4, 6 |"),
@@ -162,6 +187,11 @@ PAGES = [
     (rules.functions_of_programs, "rust.md", r"^(\| `Mechanism::new\(alloc), kind", r"\1"),
     (rules.functions_of_programs, "rust.md", r"^(\| `\.class\(class\))\?", r"\1"),
     (rules.functions_of_programs, "rust.md", r"`length`, `attributes`", "`lengths`, `attributes`"),
+    (rules.functions_of_programs, "rust.md",
+     r"^(\| `Reply::ok`)(.*\n)(\| `Body::handle`[^|]*)(.*\n)", r"\1\4\3\2"),
+    (rules.functions_without_clauses, "proofs.md", "^Three functions have", "Four functions have"),
+    (rules.functions_without_clauses, "proofs.md", "`vacant` and `fill` of", "`vacant` of"),
+    (rules.functions_without_clauses, "proofs.md", "`SharedToken::lock`", "`Token::lock`"),
     (rules.laws, "laws.md", r"`CopiesStaySensitive` \| A", "`CopiesStaySensitiv` | A"),
     (rules.laws, "laws.md", r"^\| `TriesAreAtMostThree` .*\n", ""),
     (rules.laws, "laws.md", r"^(\| `SensitiveStays`)(.*\n)(\| `Unex\w+`)(.*\n)",
@@ -181,6 +211,9 @@ PAGES = [
      "call that brings 4,095 bytes"),
     (rules.numbers_of_pages, "rules.md", r"is its number plus\n  2\^32", "is its number plus 2^31"),
     (rules.numbers_of_pages, "../README.md", "It has 34 calls", "It has 35 calls"),
+    (rules.numbers_of_pages, "architecture.md", "for 25,000 ticks", "for 900,000 ticks"),
+    (rules.numbers_of_pages, "module.md", "memory of 1,000 entries", "memory of 10,000 entries"),
+    (rules.numbers_of_pages, "module.md", r"2\^20 \+ 1 of a single-part", "2^20 of a single-part"),
 ]
 
 # Changes of sources in the folder crates with which such a page no longer agrees.
@@ -190,7 +223,7 @@ SOURCES = [
     (rules.checks_of_calls, "ck_token/src/tokens/session_calls.rt", r"ARGUMENTS_BAD \(7\)\.$",
      "ARGUMENTS_BAD (7), CKR_OPERATION_ACTIVE (90)."),
     (rules.checks_of_calls, "ck_cases/data/*.cases", "^1 Verify .* -> 60$", "# none"),
-    (rules.codes, "ck_run/src/texts.rt", '"CKR_PIN_LOCKED"', '"CKR_PIN_EXPIRED"'),
+    (rules.codes, "ck_run/src/tests/texts.rt", '"CKR_PIN_LOCKED"', '"CKR_PIN_EXPIRED"'),
     (rules.names_of_mechanisms, "ck_types/src/mechanism_numbers.rt", "= 0x250;", "= 0x258;"),
     (rules.names_of_arguments, "ck_journal/src/session_flags.rt", "SESSION: u64 = 2", "S: u64 = 2"),
     (rules.names_of_arguments, "ck_objects/src/forms.rt", "SECRET: u64 = 16", "SECRET: u64 = 10"),
@@ -199,7 +232,23 @@ SOURCES = [
     (rules.laws, "ck_journal/src/laws.rt", r"^    ensures \{ SensitiveStays \}\n", ""),
     (rules.races_of_threads, "ck_races/data/callers.races", "^1 OpenSession 6 -> 0 63\n", ""),
     (rules.sketch_of_call, "ck_token/src/tokens.rt", r"^(    parts\.res.*\n)(    j.*\n)", r"\2\1"),
+    (rules.functions_without_clauses, "ck_shared/src/shared.rt", "pub fn lock<", "fn lock<"),
+    (rules.functions_without_clauses, "ck_shared/src/shared.rt", "^fn let_", "pub fn let_"),
     (rules.numbers_of_pages, "ck_shared/src/shared.rt", "LOOKS: u32 = 11", "LOOKS: u32 = 13"),
+    (rules.numbers_of_pages, "ck_shared/src/shared.rt", "YIELDS: u32 = 64", "YIELDS: u32 = 400"),
+    (rules.numbers_of_pages, "../module/locking.c", " TICKS = 25000", " TICKS = 900000"),
+    (rules.numbers_of_pages, "../module/locking.c", "LOOKS = 5 ", "LOOKS = 19 "),
+    (rules.numbers_of_pages, "../module/locking.c", "MOST_TICKS = 1000000", "MOST_TICKS = 1000"),
+    (rules.numbers_of_pages, "../module/calls.c", "attributes = 1 << 20", "attributes = 1 << 18"),
+    (rules.numbers_of_pages, "../module/module.h", "PARAMETER = 8,", "PARAMETER = 16,"),
+]
+
+# Changes of `check` by which a part that ends isn't counted as it ends, and its status.
+UNCOUNTED = [
+    ("", "", 0),
+    ('if "$@"; then', 'if "$@" || true; then', 1),
+    ("failed + 1", "failed + 0", 1),
+    ("passed + 1", "passed + 0", 1),
 ]
 
 EDITS = "crates/*/must-fail/*.edit"
@@ -227,10 +276,12 @@ CHANGES = [
     ("another library of a crate", "crates.txt", "^ck_run: ", "ck_run: ck_shared "),
     ("a part of check that is gone", "check", "^part .*\n", ""),
     ("a condition of module/tests/run that is gone", "module/tests/run", " && \\[ -s .* \\]", ""),
-    ("a check in Rust that is gone", "crates/ck_run/src/*.rt", "^ *assert.*\n", ""),
+    ("a check in Rust that is gone", "crates/ck_run/src/tests/*.rt", "^ *assert.*\n", ""),
     ("a check in C that is gone", "module/tests/*.c", "^ *CHECK.*\n", ""),
     ("a check in Python that compares nothing", "module/tests/*.py", "checks[.]equal", "str"),
     ("another bound", "bench/growths.py", "^LEAST_OF_SHORT = .*", "LEAST_OF_SHORT = 0"),
+    ("a condition of the build that is gone", "module/*.h", "^_Static_assert.*\n", ""),
+    ("another law on its page", "docs/laws.md", "is sensitive at every later one", "may be read"),
 ]
 
 # Changes that are wrong, also where the list shows them.
@@ -239,7 +290,7 @@ WRONG_CHANGES = [
     ("an edit of a text that isn't there", EDITS, "^old: ", "old: nothing"),
     ("an edit that changes nothing", EDITS, "^old: (.*)\nnew: .*", r"old: \1\nnew: \1"),
     ("tests that aren't started", "check", "^part .* python3 tests/.*\n", ""),
-    ("a test that isn't run", "crates/ck_run/src/*.rt", "#.test.", "#[ignore] #[test]"),
+    ("a test that isn't run", "crates/ck_run/src/tests/*.rt", "#.test.", "#[ignore] #[test]"),
     ("a check that only some builds have", "module/*.c", "^( *if [(].* == NULL[)]\\n)",
      r"#ifdef __SANITIZE_ADDRESS__\n\1#endif\n"),
     ("a status that is always 0", "check", "^.*failed. -eq 0 .*\n", "true\n"),
@@ -347,8 +398,8 @@ WRONG_ENDS = [
     (is_case_right, ended(0, b"t: out of memory\n")),
     (is_case_right, ended(-1, b"")),
     (is_case_right, ended(1, b"", b"Error: line 1\n")),
-    (is_case_right, ended(1, b"t: memory lacks a second time\n")),
-    (is_case_right, ended(1, b"", b"Error: memory lacks a second time\n")),
+    (is_case_right, ended(1, b"t: out of memory a second time\n")),
+    (is_case_right, ended(1, b"", b"Error: out of memory a second time\n")),
     (is_script_right, ended(0, b"0\n")),
     (is_script_right, ended(0, SCRIPT.output, NO_MEMORY)),
     (is_script_right, ended(3, b"0", NO_MEMORY)),
@@ -482,23 +533,30 @@ def idle_programs(checks):
 
 
 def slow_programs(checks):
-    speed.FEW, speed.MANY, speed.SEARCHES = FEW_OBJECTS
-    speed.SEARCHES_OF_MANY = speed.SEARCHES
-    speed.MOST_TRIES = speed.TRIES
-    with tempfile.TemporaryDirectory() as folder:
-        path = write_program(folder, SLOW, "/bin/true")
-        for test in tests_of(speed):
-            words = words_of(speed, test, path)
-            checks.expect(fails(words), f"{test.__name__} of speed.py: {words}")
-    checks.end("a program that takes ever more time for a call")
+    with tempfile.TemporaryDirectory() as folder, mock.patch.multiple(speed, **FEW_OBJECTS):
+        for text, tests in ((SLOW, tests_of(speed)), (SLOW_AMONG_FEW, [speed.even_times])):
+            path = write_program(folder, text, "/bin/true")
+            for test in tests:
+                words = words_of(speed, test, path)
+                checks.expect(fails(words), f"{test.__name__} of speed.py on {text}: {words}")
+    for judge_times, examples in ((speed.grows_evenly, GROWING_TIMES),
+                                  (speed.is_faster_by_label, TIMES_OF_SEARCHES)):
+        for times, is_right in examples:
+            checks.expect(judge_times(*times) == is_right, f"{judge_times.__name__} of {times}")
+    checks.end("a program that takes ever more time for a call, or too much for a few")
 
 
 def wrong_times(checks):
     bench = figures.BENCH
+    times = [f"{name}: 1 ns\n" for where, name in figures.FIGURES if where == "threads"]
     with tempfile.TemporaryDirectory() as folder:
-        for output, is_right in BENCH_TIMES:
+        for test, output, is_right in (
+                *((figures.times_of_calls, *it) for it in BENCH_TIMES),
+                (figures.asks_behind_many_calls, "".join(times), True),
+                *((figures.asks_behind_many_calls, "".join(times).replace(it, ""), False)
+                  for it in times)):
             figures.BENCH = figures.program_of(folder, output)
-            words = words_of(figures, figures.times_of_calls, figures.PROGRAM)
+            words = words_of(figures, test, figures.PROGRAM)
             checks.expect((passes if is_right else fails)(words), f"{output}: {words}")
     figures.BENCH = bench
     checks.end("a program of figures whose times aren't those of the calls")
@@ -561,6 +619,8 @@ def changed_pages(checks):
         shutil.copy(os.path.join(ROOT, "README.md"), folder)
         with mock.patch.object(rules, "DOCS", pages):
             check_noticed(checks, pages, PAGES)
+        shutil.copytree(os.path.join(ROOT, "module"), os.path.join(folder, "module"),
+                        ignore=shutil.ignore_patterns("out", "tests"))
         crates = shutil.copytree(rules.CRATES, os.path.join(folder, "crates"),
                                  ignore=shutil.ignore_patterns("out", "must-fail", "proofs"))
         with mock.patch.object(rules, "CRATES", crates):
@@ -620,6 +680,19 @@ def changes(checks):
         status, said = say_of_checks(copy)
         checks.expect(status == 0, f"the copy as it was: {said}")
     checks.end("changes of checks")
+
+
+def uncounted_parts(checks):
+    """What stands in `check` before its first part, with each of these changes."""
+    front = read(os.path.join(ROOT, "check")).partition("\npart ")[0]
+    with tempfile.TemporaryDirectory() as folder:
+        for old, new, status in UNCOUNTED:
+            path = os.path.join(folder, "check")
+            write(path, front.replace(old, new, 1) + "\n")
+            ended = subprocess.run(["bash", path], capture_output=True, timeout=program.SECONDS)
+            checks.expect(old in front and ended.returncode == status,
+                          f"check with {new}: status {ended.returncode}")
+    checks.end("a script of checks that doesn't count how a part ends")
 
 
 def ends(checks):
@@ -716,6 +789,7 @@ def refused_edits(checks):
 
 def main():
     checks = program.Checks("noticing")
+    program.MANY = program.MANY_SESSIONS = FEW_CALLS
     wrong_programs(checks)
     wrong_programs_for_one(checks)
     idle_programs(checks)
@@ -728,6 +802,7 @@ def main():
     judged_growths(checks)
     passed_over(checks)
     changed_pages(checks)
+    uncounted_parts(checks)
     changes(checks)
     return checks.status()
 

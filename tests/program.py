@@ -6,9 +6,12 @@ The program is crates/ck_run/out/ck_run, which `rt ci` leaves and `rt run` in it
 the one that is named. For each test a line is printed that begins with passed, FAILED or skipped,
 and the status is 1 where one failed. This needs Linux, which has the device /dev/full.
 """
+import hashlib
+import hmac
 import os
 import resource
 import select
+import socket
 import subprocess
 import sys
 import tempfile
@@ -47,13 +50,76 @@ FIRST_CALLS = b"""\
 """
 FIRST_REPLIES = b"0\n0 1\n0 1\n0 =6162,:0\n0\n82\n"
 
-# More calls than any bound on their number lets through, and the reply to each.
-MANY = 1_000_000
-MANY_CALLS = b"1 GetTokenInfo\n" * MANY
-REPLY_TO_EACH = b"0 4 64 0 0\n"
+# More calls than any bound on their number lets through, also one of 2^21, and the reply to each
+# where one session is open.
+MANY = 2_200_000
+ONE_OF_MANY = b"1 GetTokenInfo\n"
+REPLY_TO_EACH = b"0 404 64 1 1\n"
 
 # So many items and queries of four bytes fill most of the longest line.
 MANY_ITEMS = 1_000_000
+
+# How many bytes a parameter has that fills most of the longest line, how many objects one call
+# finds, and how many answers one call gives.
+LONG_PARAMETER = 2_000_000
+MANY_FOUND = 70_000
+MANY_ANSWERS = 100_000
+
+# How many sessions are opened and closed, with two objects each, before each call is made: more
+# than 2^17 openings and 2^18 creations.
+MANY_SESSIONS = 140_000
+
+# A token with a key, and what is made behind many calls and sessions: each call, with its reply.
+FIRST_OF_MANY = b"""\
+1 InitToken 31323334
+1 OpenSession 6
+1 CreateObject 1 0=0400000000000000,100=1000000000000000,11=4a656665,2=00
+"""
+DIGEST = hashlib.sha256(b"a").hexdigest()
+SIGNATURE = hmac.new(b"Jefe", b"a", hashlib.sha256).hexdigest()
+EACH_CALL = [
+    ("OpenSession 6", "0 {session}"),
+    ("GetSessionInfo {session}", "0 2 6"),
+    ("CreateObject {session} 0=0000000000000000", "0 {created}"),
+    ("CopyObject {session} {created} -", "0 {copied}"),
+    ("GenerateKey {session} 350 161=0100000000000000,2=00 00", "0 {generated}"),
+    ("GetAttributeValue {session} {generated} 161:8,3:?", "0 =0100000000000000,:0"),
+    ("SetAttributeValue {session} {copied} 3=61", "0"),
+    ("SetKeyState {session} {generated} 5", "0"),
+    ("FindObjectsInit {session} 3=61", "0"),
+    ("FindObjects {session} 9", "0 {copied}"),
+    ("FindObjectsFinal {session}", "0"),
+    ("DigestInit {session} 250", "0"),
+    ("Digest {session} 61 32", f"0 {DIGEST}"),
+    ("DigestInit {session} 250", "0"),
+    ("DigestUpdate {session} 61", "0"),
+    ("DigestFinal {session} 32", f"0 {DIGEST}"),
+    ("SignInit {session} 251 1", "0"),
+    ("Sign {session} 61 32", f"0 {SIGNATURE}"),
+    ("SignInit {session} 251 1", "0"),
+    ("SignUpdate {session} 61", "0"),
+    ("SignFinal {session} 32", f"0 {SIGNATURE}"),
+    ("VerifyInit {session} 251 1", "0"),
+    ("Verify {session} 61 " + SIGNATURE, "0"),
+    ("VerifyInit {session} 251 1", "0"),
+    ("VerifyUpdate {session} 61", "0"),
+    ("VerifyFinal {session} " + SIGNATURE, "0"),
+    ("DigestInit {session} 250", "0"),
+    ("SessionCancel {session} 400", "0"),
+    ("DestroyObject {session} {created}", "0"),
+    ("Login 1 0 31323334", "0"),
+    ("InitPIN 1 75736572", "0"),
+    ("SetPIN 1 31323334 31323334", "0"),
+    ("Logout 1", "0"),
+    ("GetMechanismList", "0 250,251,252,255,256,257,260,261,262,270,271,272,350"),
+    ("GetTokenInfo", "0 40c 64 2 2"),
+    ("CloseSession {session}", "0"),
+    ("CloseAllSessions", "0"),
+    ("InitToken 31323334", "0"),
+]
+
+# The bytes of a packet that one read takes whole.
+PACKET = 16_384
 
 # Short calls of callers in threads, and how many times they may sleep together.
 MANY_SHORT = 400_000
@@ -99,6 +165,12 @@ BAD_ARGUMENTS = [
     (["-c"], b"unexpected argument '-c' found" + USAGE),
     (["script.txt"], b"unexpected argument 'script.txt' found" + USAGE),
     (["--callers", "2", "script.txt"], b"unexpected argument 'script.txt' found" + USAGE),
+    (["--callers", "2", "--callers", "2", "x", "y"], b"unexpected argument 'x' found" + USAGE),
+    (["--caller", "2"], b"unexpected argument '--caller' found"
+     b"\n\n  tip: a similar argument exists: '--callers'\n\nUsage: ck_run --callers <N>" + MORE),
+    (["--help=1"], b"unexpected value '1' for '--help' found; no more were expected"
+     b"\n\nUsage: ck_run --help" + MORE),
+    (["x" * 1_000], b"unexpected argument '" + b"x" * 1_000 + b"' found" + USAGE),
     # the byte ff
     (["\udcff"], b"an argument isn't text in UTF-8"),
 ]
@@ -260,6 +332,11 @@ class Checks:
         return 1 if self.failed else 0
 
 
+def front_of(text):
+    """The front of what was written, where something is known of it, as it is shown."""
+    return repr(text and text[:300])
+
+
 class Tests(Checks):
     """The tests of one program."""
 
@@ -282,8 +359,8 @@ class Tests(Checks):
         """The program writes this and ends so."""
         made = self.run(words, script, **files)
         shown = script if len(script or b"") < 200 else f"a script of {len(script)} bytes"
-        came = f"{made[0]!r:.300} {made[1]!r:.300} {made[2]}"
-        wanted = f"{output!r:.300} {errors!r:.300} {status}"
+        came = f"{front_of(made[0])} {front_of(made[1])} {made[2]}"
+        wanted = f"{front_of(output)} {front_of(errors)} {status}"
         self.expect(made == (output, errors, status),
                     f"{words} {shown} {files}: {came}, and not {wanted}")
 
@@ -293,7 +370,6 @@ def scripts(tests):
     tests.check([], b"1 InitToken 31323334", b"0\n", *PLAYED)
     tests.check([], FIRST_CALLS, FIRST_REPLIES, *PLAYED)
     tests.check([], TWO_CALLERS, FIRST_REPLIES + b"0\nb3\n", *PLAYED)
-    tests.check([], MANY_CALLS, REPLY_TO_EACH * MANY, *PLAYED)
     tests.check([], b"1 InitToken 31323334\n\n# x\n1 Nope\n", b"0\n", *bad_script(4, NO_CALL))
     tests.end("a script is played line by line")
 
@@ -382,7 +458,8 @@ def longest_lines(tests):
 
 
 def long_lists(tests):
-    """A line may have as many queries and items as it has room for, and a value as many bytes."""
+    """A line may have as many queries and items as it has room for, and a value or a parameter as
+    many bytes."""
     start = b"1 InitToken 31323334\n1 OpenSession 6\n"
     queries = b"1 GetAttributeValue 1 1 " + b"3:?," * MANY_ITEMS + b"3:?\n"
     items = b"1 FindObjectsInit 1 " + b"3=-," * MANY_ITEMS + b"3=-\n"
@@ -391,14 +468,61 @@ def long_lists(tests):
     value = b"61" * ((LONGEST_LINE - len(front)) // 2)
     calls = front + value + b"\n1 GetAttributeValue 1 1 11:?,11:%d\n" % (len(value) // 2)
     tests.check([], start + calls, b"0\n0 1\n0 1\n0 :%d,=%b\n" % (len(value) // 2, value), *PLAYED)
-    tests.end("lists and values that fill the longest line")
+    parameter = b"1 DigestInit 1 250:" + b"00" * LONG_PARAMETER + b"\n"
+    tests.check([], start + parameter, b"0\n0 1\n71\n", *PLAYED)
+    tests.end("lists, values and a parameter that fill the longest line")
+
+
+def long_replies(tests):
+    """A reply may have as many handles and answers as the call asks for."""
+    handles = [b"%d" % (number + 1) for number in range(MANY_FOUND)]
+    calls = (b"1 InitToken 31323334\n1 OpenSession 6\n"
+             + b"1 CreateObject 1 0=0000000000000000\n" * MANY_FOUND
+             + b"1 FindObjectsInit 1 -\n1 FindObjects 1 %d\n" % MANY_FOUND
+             + b"1 GetAttributeValue 1 1 " + b",".join([b"3:?"] * MANY_ANSWERS) + b"\n")
+    answers = b",".join([b":0"] * MANY_ANSWERS)
+    replies = (b"0\n0 1\n" + b"".join(b"0 %b\n" % handle for handle in handles)
+               + b"0\n0 %b\n0 %b\n" % (b",".join(handles), answers))
+    tests.check([], calls, replies, *PLAYED)
+    tests.end("replies with many handles and with many answers")
+
+
+def long_history(tests):
+    """Each call is answered, however many calls, sessions and objects there were before."""
+    sessions = range(2, MANY_SESSIONS + 2)
+    calls = [b"1 OpenSession 6\n1 CreateObject %d 0=0000000000000000\n"
+             b"1 CopyObject %d %d -\n1 CloseSession %d\n" % (it, it, 2 * it - 2, it)
+             for it in sessions]
+    replies = [b"0 %d\n0 %d\n0 %d\n0\n" % (it, 2 * it - 2, 2 * it - 1) for it in sessions]
+    numbers = {"session": MANY_SESSIONS + 2, "created": 2 * MANY_SESSIONS + 2,
+               "copied": 2 * MANY_SESSIONS + 3, "generated": 2 * MANY_SESSIONS + 4}
+    for call, reply in EACH_CALL:
+        calls.append(f"1 {call}\n".format(**numbers).encode())
+        replies.append(f"{reply}\n".format(**numbers).encode())
+    tests.check([], FIRST_OF_MANY + ONE_OF_MANY * MANY + b"".join(calls),
+                b"0\n0 1\n0 1\n" + REPLY_TO_EACH * MANY + b"".join(replies), *PLAYED)
+    tests.end("each call behind many others")
+
+
+def packets(tests):
+    """A read asks for many bytes: what it leaves of a packet is lost, and here that is a call."""
+    call = b"\n1 InitToken 31323334\n"
+    packet = b"#".ljust(PACKET - len(call), b"x") + call
+    for words, output in (([], b"0\n0 1\n"), (["--callers", "1"], b"entries 2\naudit ok\n")):
+        ours, theirs = socket.socketpair(socket.AF_UNIX, socket.SOCK_SEQPACKET)
+        with ours, theirs:
+            ours.send(packet)
+            ours.send(b"1 OpenSession 6\n")
+            ours.shutdown(socket.SHUT_WR)
+            tests.check(words, None, output, *PLAYED, stdin=theirs)
+    tests.end("packets are read whole")
 
 
 def callers(tests):
     for words in (["--callers", "2"], ["--callers=2"], ["--callers", "8"]):
         tests.check(words, TWO_CALLERS, b"entries 8\naudit ok\n", *PLAYED)
     tests.check(["--callers", "1"], FIRST_CALLS, b"entries 6\naudit ok\n", *PLAYED)
-    tests.check(["--callers", "1"], MANY_CALLS, b"entries %d\naudit ok\n" % MANY, *PLAYED)
+    tests.check(["--callers", "1"], ONE_OF_MANY * MANY, b"entries %d\naudit ok\n" % MANY, *PLAYED)
     for count in range(1, 9):
         line = b"%d GetTokenInfo\n" % count
         tests.check(["--callers", str(count)], line, b"entries 1\naudit ok\n", *PLAYED)
@@ -494,7 +618,7 @@ def threads(tests):
 
 
 def arguments(tests):
-    for words in (["--help"], ["-h"], ["--callers", "2", "--help"]):
+    for words in (["--help"], ["-h"], ["-hx"], ["--callers", "2", "--help"]):
         tests.check(words, b"Nope\n", HELP, *PLAYED)
     for words, reason in BAD_ARGUMENTS:
         tests.check(words, b"1 InitToken 31323334\n", b"", *bad_arguments(reason))
@@ -535,6 +659,9 @@ def main(program):
     names(tests)
     longest_lines(tests)
     long_lists(tests)
+    long_replies(tests)
+    long_history(tests)
+    packets(tests)
     callers(tests)
     audits(tests)
     many_changes(tests)

@@ -50,7 +50,7 @@ SHAPES = """\
 12, together in any order, 3
 """
 
-# The races of the file whose wrong replies are played without the word alone too, by their places
+# The races of the file whose wrong replies are played without the word in-turn too, by their places
 # in it: one with a set order, and two in any order, with two sessions and with a cut.
 NOT_ALONE = [2, 9, 15]
 
@@ -248,14 +248,14 @@ def output_of(name, text):
     count = len(races)
     calls = RUNS * sum(calls_of_callers(lines, race) for race in races)
     _, rest = read(CRATE, "stdout").split("\n", 1)
-    alone = f"{name}: {count} passed\n"
-    return alone.encode(), f"{name}: {count} passed, {calls} calls in threads\n{rest}".encode()
+    in_turn = f"{name}: {count} passed\n"
+    return in_turn.encode(), f"{name}: {count} passed, {calls} calls in threads\n{rest}".encode()
 
 
 def whole_file(tests):
-    alone, output = output_of(NAME, read(DATA, NAME))
-    tests.check(["alone", NAME], None, alone, b"", 0, cwd=DATA)
-    tests.check(["alone", NAME, NAME], None, alone + alone, b"", 0, cwd=DATA)
+    in_turn, output = output_of(NAME, read(DATA, NAME))
+    tests.check(["in-turn", NAME], None, in_turn, b"", 0, cwd=DATA)
+    tests.check(["in-turn", NAME, NAME], None, in_turn + in_turn, b"", 0, cwd=DATA)
     tests.check([NAME], None, output, b"", 0, cwd=DATA)
     tests.expect(output == read(CRATE, "stdout").encode(), f"{output} isn't in the file stdout")
     tests.end("the file of races")
@@ -277,7 +277,7 @@ def each_wrong_reply(tests):
     lines = read(DATA, NAME).split("\n")
     for number, line in enumerate(lines):
         if ARROW in line:
-            check_wrong(tests, ["alone", "t"], lines, number)
+            check_wrong(tests, ["in-turn", "t"], lines, number)
     tests.end("wrong replies to each call")
 
 
@@ -292,12 +292,12 @@ def wrong_in_parts(tests):
         for part in parts_of(lines, race)[0]:
             for number in part[-1:]:
                 check_wrong(tests, ["t"], only, number)
-    tests.end("wrong replies in each part of a race, without the word alone")
+    tests.end("wrong replies in each part of a race, without the word in-turn")
 
 
 def orders(tests):
     for text, errors in ORDERS:
-        tests.check_file(text.encode(), ["alone", "t"], b"t: 1 passed\n", b"", 0)
+        tests.check_file(text.encode(), ["in-turn", "t"], b"t: 1 passed\n", b"", 0)
         tests.check_file(text.encode(), ["t"], b"", errors.encode(), 1)
     tests.end("replies that depend on the order, in races in any order")
 
@@ -310,7 +310,7 @@ def set_orders(tests):
 
 
 def check_bad(tests, text, reason):
-    for words in (["alone", "t"], ["t"]):
+    for words in (["in-turn", "t"], ["t"]):
         tests.check_file(text, words, b"", f"Error: {reason}\n".encode(), 1)
 
 
@@ -324,7 +324,7 @@ def bad_files(tests):
     for text, reason in BAD_FILES:
         check_bad(tests, text.encode(), reason)
     check_bad(tests, b"race\n\xff\n", "stream did not contain valid UTF-8")
-    for words in (["none"], ["alone", "none"], ["alone", "t", "none"]):
+    for words in (["none"], ["in-turn", "none"], ["in-turn", "t", "none"]):
         errors = b"Error: No such file or directory (os error 2)\n"
         tests.check_file(GOOD.encode(), words, b"", errors, 1)
     tests.end("files that aren't played to their end")

@@ -31,7 +31,7 @@ Arguments:
 
 Options:
       --limits <LIMITS>  Play with the limits SESSIONS,OPENINGS,CREATIONS,LOGINS, or 'largest', in all cases
-      --most <N>         Name at most N lines of a file that differ or are bad; the others only count [default: 100]
+      --most <N>         Name at most N lines of a file that differ or are bad; the others are only counted [default: 100]
       --replies          Write the file with the replies that came, and nothing else
   -h, --help             Print help
 
@@ -48,7 +48,7 @@ A line 'limits' begins a new token: 'limits largest', or four numbers as in
 and behind the arrow the recorded reply, if there is one. 'ck_cases token.cases'
 makes the calls on a new token and writes
 
-  token.cases: line 5: 1 Login 1 1 393939: came 102 CKR_USER_PIN_NOT_INITIALIZED, and not 0 CKR_OK
+  token.cases: line 5: 1 Login 1 1 393939: got 102 CKR_USER_PIN_NOT_INITIALIZED, expected 0 CKR_OK
   token.cases: 2 passed, 1 differ
 
 To play the run with other limits, and to keep it with the replies that come:
@@ -70,18 +70,18 @@ REPORTS = [
      b"t: 2 passed\n", 0),
     # another code, and another body
     (b"1 OpenSession 6 -> 0 1\n1 InitToken 31323334 -> 0\n1 OpenSession 6 -> 0 2\n",
-     b"t: line 1: 1 OpenSession 6: came e1 CKR_TOKEN_NOT_RECOGNIZED, and not 0 CKR_OK 1\n"
-     b"t: line 3: 1 OpenSession 6: came 0 CKR_OK 1, and not 0 CKR_OK 2\n"
+     b"t: line 1: 1 OpenSession 6: got e1 CKR_TOKEN_NOT_RECOGNIZED, expected 0 CKR_OK 1\n"
+     b"t: line 3: 1 OpenSession 6: got 0 CKR_OK 1, expected 0 CKR_OK 2\n"
      b"t: 1 passed, 2 differ\n", 1),
     # a call without a reply, and a code that no call answers
     (b"1 InitToken 31323334\n1 GetMechanismList -> 54\n",
-     b"t: line 2: 1 GetMechanismList: came 0 CKR_OK "
-     b"250,251,252,255,256,257,260,261,262,270,271,272,350, and not 54\n"
+     b"t: line 2: 1 GetMechanismList: got 0 CKR_OK "
+     b"250,251,252,255,256,257,260,261,262,270,271,272,350, expected 54\n"
      b"t: 0 passed, 1 differ, 1 without a reply\n", 1),
     # an audit of other limits
     (b"limits 2 9 9 9\n1 InitToken 31323334 -> 0\n1 OpenSession 6 -> 0 1\n"
      b"1 OpenSession 6 -> 0 2\naudit 1 9 9 9 -> legal\n",
-     b"t: line 5: audit 1 9 9 9: came entry 3 is wrong, and not legal\n"
+     b"t: line 5: audit 1 9 9 9: got entry 3 is wrong, expected legal\n"
      b"t: 3 passed, 1 differ\n", 1),
     # lines that are bad, and one of which that is recorded
     (b"1 Logn 1 1 39 -> 0\nfoo\n1 Digest 1 -> bad script: Digest takes 3 arguments\n",
@@ -90,7 +90,7 @@ REPORTS = [
      b"t: 1 passed, 2 bad\n", 1),
     # a bad line of which another reason is recorded
     (b"1 Nope -> bad script: x\n",
-     b"t: line 1: 1 Nope: came bad script: no call has this name, and not bad script: x\n"
+     b"t: line 1: 1 Nope: got bad script: no call has this name, expected bad script: x\n"
      b"t: 0 passed, 1 differ\n", 1),
     (b"limits 65 1 1 1\ncut -> entries 0\n",
      b"t: line 1: limits 65 1 1 1: " + BAD_LIMITS + b"\nt: 1 passed, 1 bad\n", 1),
@@ -101,8 +101,8 @@ REPORTS = [
      b"t: line 1: audit 65 1 1 1: " + BAD_LIMITS + b"\nt: 0 passed, 1 bad\n", 1),
     # more lines than are named
     (b"1 Logout 1 -> 0\n1 Logout 1 -> 0\n1 Logout 1 -> 0\ncut -> legal\n",
-     b"t: line 1: 1 Logout 1: came b3 CKR_SESSION_HANDLE_INVALID, and not 0 CKR_OK\n"
-     b"t: line 2: 1 Logout 1: came b3 CKR_SESSION_HANDLE_INVALID, and not 0 CKR_OK\n"
+     b"t: line 1: 1 Logout 1: got b3 CKR_SESSION_HANDLE_INVALID, expected 0 CKR_OK\n"
+     b"t: line 2: 1 Logout 1: got b3 CKR_SESSION_HANDLE_INVALID, expected 0 CKR_OK\n"
      b"t: only counted: 2 more\nt: 0 passed, 4 differ\n", 1),
 ]
 
@@ -260,7 +260,7 @@ def reports(tests):
 
 
 def limits(tests):
-    report = (b"t: line 5: 1 OpenSession 6: came b1 CKR_SESSION_COUNT, and not 0 CKR_OK 2\n"
+    report = (b"t: line 5: 1 OpenSession 6: got b1 CKR_SESSION_COUNT, expected 0 CKR_OK 2\n"
               b"t: only counted: 1 more\nt: 1 passed, 1 differ, 1 bad, 1 without a reply\n")
     tests.check_file(TWO_SESSIONS, ["--limits", "1,9,8,7", "--most", "1", "t"], report, b"", 1)
     for words, output in [(["--limits", "1,9,8,7"], ONE_SESSION),
@@ -271,7 +271,7 @@ def limits(tests):
 
 
 def limits_of_first_case(tests):
-    report = (b"t: line 4: 1 OpenSession 6: came b1 CKR_SESSION_COUNT, and not 0 CKR_OK 2\n"
+    report = (b"t: line 4: 1 OpenSession 6: got b1 CKR_SESSION_COUNT, expected 0 CKR_OK 2\n"
               b"t: 2 passed, 1 differ\n")
     tests.check_file(WITHOUT_LIMITS, ["t"], b"t: 3 passed\n", b"", 0)
     tests.check_file(WITHOUT_LIMITS, ["--limits", "1,9,8,7", "t"], report, b"", 1)
@@ -297,7 +297,7 @@ def shown(text):
 def check_long_reply(tests, recorded, place):
     """A digest of which another reply is recorded, and what is said of where they differ."""
     came, wanted = (b"0 CKR_OK " + shown(it.decode()) for it in (DIGEST, recorded))
-    report = (b"t: line 4: 1 Digest 1 616263 64: came " + came + b", and not " + wanted + place
+    report = (b"t: line 4: 1 Digest 1 616263 64: got " + came + b", expected " + wanted + place
               + b"\nt: 3 passed, 1 differ\n")
     step = b"1 Digest 1 616263 64 -> 0 " + recorded + b"\n"
     tests.check_file(BEFORE_DIGEST + step, ["t"], report, b"", 1)
@@ -310,7 +310,7 @@ def long_texts(tests):
                          b" caller, a call and its arguments\nt: 0 passed, 1 bad\n", b"", 1)
     call, recorded = "1 InitToken " + "31" * MOST_SHOWN, "x" * (MOST_SHOWN + 1)
     tests.check_file(f"{call} -> {recorded}".encode(), ["t"], b"t: line 1: " + shown(call)
-                     + b": came a2 CKR_PIN_LEN_RANGE, and not " + shown(recorded)
+                     + b": got a2 CKR_PIN_LEN_RANGE, expected " + shown(recorded)
                      + b"\nt: 0 passed, 1 differ\n", b"", 1)
     for place in (3, 61, 80, 81, 82, 83, 130):
         # the code and the space before the digest are two characters

@@ -9,10 +9,11 @@ several faults of a line is named.
 The replies that are wanted are read off the pages. So that no row is passed over, each table must
 have as many rows as are said here, and attributes and states that it doesn't have must be refused.
 Last, what pages say is compared with what the sources and other tests have: the checks of each
-call, return codes, reasons of bad lines, statuses, names and functions for programs, names of laws,
-races, and numbers. The program is crates/ck_run/out/ck_run, which `rt ci` leaves, or the one that
-is named; cases of limits are played by crates/ck_cases/out/ck_cases. For each test a line is
-printed that begins with passed or FAILED, and the status is 1 where one failed.
+call, return codes, reasons of bad lines, statuses, names and functions for programs, functions
+without clauses, names of laws, races, and numbers. The program is crates/ck_run/out/ck_run, which
+`rt ci` leaves, or the one that is named; cases of limits, and the ends that docs/recorded_runs.md
+says, are played by crates/ck_cases/out/ck_cases. For each test a line is printed that begins with
+passed or FAILED, and the status is 1 where one failed.
 """
 import glob
 import hashlib
@@ -46,7 +47,8 @@ TABLES = {
     "what comes with the code | text after the code": ("script.md", 9),
     "call | arguments": ("script.md", 34),
     "code | name": ("script.md", 38),
-    "status | when": ("script.md", 8),
+    "status | when | line on standard error": ("script.md", 8),
+    "status | when": ("recorded_runs.md", 3),
     "what is wrong | text": ("script.md", 19),
     "name | the standard's": ("rust.md", 10),
     "function | makes": ("rust.md", 10),
@@ -93,6 +95,20 @@ GENERATION = ["350", "CKM_GENERIC_SECRET_KEY_GEN"]
 # Codes that no call answers, and a status to which no test of the program can come.
 UNANSWERED = ("CKR_HOST_MEMORY", "CKR_KEY_TYPE_INCONSISTENT")
 UNTRIED = (3, "ck_run: reader does not end")
+
+# Ends of the program ck_cases: what the page says of each, the words that it is given, and its file
+# `t`.
+ENDS_OF_CASES = [
+    ("all lines passed", ["t"], b"1 InitToken 31323334 -> 0\n"),
+    ("have no reply", ["t"], b"1 InitToken 31323334\n"),
+    ("`--help` was asked for", ["--help"], b""),
+    ("a line differs", ["t"], b"1 InitToken 31323334 -> 7\n"),
+    ("is bad", ["t"], b"1 Nope\n"),
+    ("bad arguments", ["--nothing", "t"], b""),
+    ("a file that can't be read", ["none"], b""),
+    ("isn't UTF-8", ["t"], b"\xff\n"),
+    ("has CR LF", ["t"], b"1 InitToken 31323334\r\n"),
+]
 
 CODE = re.compile(r'\(0x([0-9a-f]+), "(CKR_\w+)"\)')
 MECHANISM = re.compile(r"pub const (\w+): u64 = 0x([0-9a-f]+);")
@@ -244,6 +260,9 @@ NAMED = ["ck_types/src/users.rt", "ck_journal/src/session_flags.rt",
          "ck_journal/src/operations.rt", "ck_objects/src/forms.rt", "ck_objects/src/attributes.rt"]
 CONSTANT = re.compile(r"^(?:pub(?:\(\w+\))? )?const (\w+): \w+ = ([\w <|]+);", re.MULTILINE)
 VARIANT = re.compile(r"^ +(?:\w+::)?(\w+) =>? (0x[0-9a-f]+|\d+|[A-Z_]{2,}),$", re.MULTILINE)
+# In C a constant, or what an `enum` has; and how a function begins.
+CONSTANT_IN_C = re.compile(r"(?:static const \w+|enum \{|,|^   ) (\w+) = ([\w <]+)(?=[;,]| \})")
+FUNCTION_IN_C = re.compile(r"^\w.*?\b(\w+)\(.*\{$")
 STANDARD = {"CKU_SO": 0, "CKU_USER": 1, "CKF_SERIAL_SESSION": 4, "CKF_RW_SESSION": 2,
             "CKF_DIGEST": 0x400, "CKF_SIGN": 0x800, "CKF_VERIFY": 0x2000, "CKO_DATA": 0,
             "CKO_SECRET_KEY": 4, "CKK_GENERIC_SECRET": 0x10, "both": 6}
@@ -285,7 +304,7 @@ ASKING = "one logs in, another asks without the lock"
 REPLY = re.compile(r"^(\d+) .* -> (.*)$", re.MULTILINE)
 
 # Numbers on pages that are constants: the page, the words with the number, and where the constant
-# stands.
+# stands. One of C in a function stands behind the function's name.
 NUMBERS_ON_PAGES = [
     ("../README.md", r"also from up to (\w+) threads", "ck_journal/src/calls.rt", "MOST_CALLERS"),
     ("threads.md", r"numbered from 1, at most (\w+)\.", "ck_journal/src/calls.rt", "MOST_CALLERS"),
@@ -325,6 +344,47 @@ NUMBERS_ON_PAGES = [
     ("script.md", r"come to its end in (\S+) reads", "ck_plays/src/plays.rt", "MOST_READS"),
     ("script.md", r"A name of at most (\w+) bytes is near", "ck_script/src/similar_names.rt",
      "LONGEST_TEXT"),
+    ("architecture.md", r"The first (\w+) of these looks follow", "ck_shared/src/shared.rt",
+     "QUICK_LOOKS"),
+    ("architecture.md", r"lets others run (\w+) times before the next", "ck_shared/src/shared.rt",
+     "YIELDS"),
+    ("architecture.md", r"the module's own mutex (\w+) times at once", "../module/locking.c",
+     "take_quickly LOOKS"),
+    ("architecture.md", r"and then at most (\w+) times", "../module/locking.c",
+     "take_slowly LOOKS"),
+    ("architecture.md", r"others run for (\S+) ticks", "../module/locking.c",
+     "let_others_run TICKS"),
+    ("architecture.md", r"no more looks after (\S+) ticks", "../module/locking.c",
+     "take_slowly MOST_TICKS"),
+    ("architecture.md", r"A message of (\S+) bytes or more is taken in while", "../module/works.c",
+     "SHORTEST_LONG_MESSAGE"),
+    ("module.md", r"or a piece of one, of (\S+) bytes or more is", "../module/works.c",
+     "SHORTEST_LONG_MESSAGE"),
+    ("module.md", r"a journal in memory of (\S+) entries or more is cut", "../module/calls.c",
+     "cut_from"),
+    ("module.md", r"and more than (\S+) attributes are", "../module/calls.c", "most_attributes"),
+    ("module.md", r"A value of more than (\S+) bytes", "../module/calls.c", "longest_value"),
+    ("module.md", r"asks the token for (\S+) handles at a time", "../module/searches.c",
+     "most_handles"),
+    ("module.md", r"one more than may be: (\w+) of a PIN", "../module/module.h",
+     "LONGEST_PIN + 1"),
+    ("module.md", r"one more than may be: (\w+) of a PIN or a signature", "../module/module.h",
+     "LONGEST_SIGNATURE + 1"),
+    ("module.md", r"or a signature, (\w+) of a mechanism's parameter", "../module/module.h",
+     "LONGEST_PARAMETER + 1"),
+    ("module.md", r"parameter, (\S+ \+ 1) of a single-part message", "../module/module.h",
+     "LONGEST_MESSAGE + 1"),
+    ("module.md", r"An update of more than (\S+) bytes goes", "../module/module.h",
+     "LONGEST_MESSAGE"),
+    ("module.md", r"goes to the token in pieces of ([^ ,]+)", "../module/module.h",
+     "LONGEST_MESSAGE"),
+    ("module.md", r"a call whose line would be longer than (\S+) bytes", "../module/module.h",
+     "LONGEST_LINE"),
+    ("module.md", r"the (\S+) bytes that a line may have", "../module/module.h", "LONGEST_LINE"),
+    ("module.md", r"gives of an HMAC keys of 1 to (\S+) bytes", "../module/module.h",
+     "LONGEST_KEY"),
+    ("module.md", r"PINs of (\w+) to 64 bytes", "../module/module.h", "SHORTEST_PIN"),
+    ("module.md", r"PINs of 4 to (\w+) bytes", "../module/module.h", "LONGEST_PIN"),
 ]
 
 # Numbers that pages write as words.
@@ -682,10 +742,11 @@ def calls(tests):
 
 
 def number_in(text):
-    """A number as pages write it: in digits, with commas, as a power, as one less, or as a word."""
-    power = re.fullmatch(r"(\d+)\^(\d+)( - 1)?", text)
+    """A number as pages write it: in digits, with commas, as a power, as one less or one more than
+    that, or as a word."""
+    power = re.fullmatch(r"(\d+)\^(\d+)(?: ([-+]) 1)?", text)
     if power:
-        return int(power[1]) ** int(power[2]) - bool(power[3])
+        return int(power[1]) ** int(power[2]) + {None: 0, "-": -1, "+": 1}[power[3]]
     digits = text.replace(",", "")
     return int(digits) if digits.isdecimal() else NUMBER_WORDS.get(text.lower())
 
@@ -837,7 +898,8 @@ def part_of(page, title):
 
 def known_codes():
     """The number of each code, by its name."""
-    return {name: code for code, name in CODE.findall(read(CRATES, "ck_run", "src", "texts.rt"))}
+    texts = read(CRATES, "ck_run", "src", "tests", "texts.rt")
+    return {name: code for code, name in CODE.findall(texts)}
 
 
 def codes_of_template(purpose):
@@ -1005,8 +1067,7 @@ def faults_of_lines(tests):
 def codes(tests):
     """The codes are those of the tests in the crate ck_run."""
     said = {(code.strip("`"), name.split()[0]) for code, name in rows(tests, "code | name")}
-    known = {(code, name) for code, name in CODE.findall(read(CRATES, "ck_run", "src", "texts.rt"))
-             if name not in UNANSWERED}
+    known = {(code, name) for name, code in known_codes().items() if name not in UNANSWERED}
     tests.expect(said == known, f"said on the page, or known, and not both: {said ^ known}")
     tests.end("return codes on the page of scripts")
 
@@ -1023,10 +1084,24 @@ def reasons(tests):
 def statuses(tests):
     """The statuses, with what is on standard error, are those that program.py tries."""
     said = [(int(status), "".join(QUOTED.findall(errors)).replace("line N", "line 2"))
-            for status, _, errors in rows(tests, "status | when")]
+            for status, _, errors in rows(tests, "status | when | line on standard error")]
     tried = [(status, errors.decode().rstrip("\n")) for errors, status in program.ENDS]
     tests.expect(said == [*tried, UNTRIED], f"{said}, and not {tried} and {UNTRIED}")
     tests.end("statuses on the page of scripts")
+
+
+def statuses_of_cases(tests):
+    """Each end of ck_cases that can be made has the status of the row that speaks of it."""
+    table = rows(tests, "status | when")
+    cases = program.Tests(recorded_runs.PROGRAM)
+    for what, words, text in ENDS_OF_CASES:
+        with tempfile.TemporaryDirectory() as folder:
+            with open(os.path.join(folder, "t"), "wb") as file:
+                file.write(text)
+            _, _, status = cases.run(words, b"", cwd=folder)
+        said = [cells[0] for cells in table if what in cells[1]]
+        tests.expect(said == [str(status)], f"{what}: {said} on the page, and {status}")
+    tests.end("statuses on the page of recorded runs")
 
 
 def columns_of_mechanisms(table):
@@ -1062,10 +1137,24 @@ def number_of(value, known):
     return int(found[1], 0) << int(found[2] or 0) if found else None
 
 
+def constants_in_c(text):
+    """The constants of a file of C, by their names. That of a function stands behind its name."""
+    known, function = {}, ""
+    for line in text.split("\n"):
+        begins = FUNCTION_IN_C.match(line)
+        if begins or line == "}":
+            function = begins[1] + " " if begins else ""
+        for name, value in CONSTANT_IN_C.findall(line):
+            known[function + name] = number_of(value, known)
+    return known
+
+
 def constants_of(path):
     """The constants of a file, by their names."""
-    known = {}
-    for name, value in CONSTANT.findall(read(CRATES, *path.split("/"))):
+    text, known = read(CRATES, *path.split("/")), {}
+    if path.endswith((".c", ".h")):
+        return constants_in_c(text)
+    for name, value in CONSTANT.findall(text):
         known[name] = number_of(value, known)
     return known
 
@@ -1096,40 +1185,82 @@ def names_of_arguments(tests):
     tests.end("names and numbers on the page of programs")
 
 
-def heads_of_functions():
-    """The functions with contracts: the names of what each is given except itself, and whether it
-    gives a result."""
-    heads = {}
-    for path in glob.glob(os.path.join(CRATES, "*", "src", "**", "*.rt"), recursive=True):
-        for name, _, lines in contracts.contracts_in(path):
-            given, result = HEAD.match(" ".join(" ".join(lines).split())).groups()
-            given = [it.split(":")[0] for it in re.split(r",\s*", given.strip(" ,")) if it]
-            heads[name] = ([it for it in given if not it.endswith("self")],
-                           (result or "").startswith("Result<"))
-    return heads
+def contracts_of_functions():
+    """The functions with contracts: what each does, and the lines of its contract."""
+    return {name: (what, lines)
+            for path in glob.glob(os.path.join(CRATES, "*", "src", "**", "*.rt"), recursive=True)
+            for name, what, lines in contracts.contracts_in(path)}
 
 
-def functions_of_programs(tests):
-    """The functions of the page have contracts, are given as many arguments as are shown, and give
-    a result where a question mark stands."""
-    heads, owner = heads_of_functions(), ""
-    for names, _ in rows(tests, "function | makes"):
-        for shown in QUOTED.findall(names):
-            found = SHOWN.fullmatch(shown)
-            owner = found["owner"] or owner
-            given, is_result = heads.get(f"{owner}::{found['name']}", (None, False))
-            tests.expect(given is not None, f"{shown}: there is no such function of {owner}")
-            if given is not None and found["given"]:
-                shown_given = found["given"].split(", ")
-                tests.expect(len(given) == len(shown_given) and is_result == bool(found["asks"]),
-                             f"{shown} is given {given}, and gives a result: {is_result}")
-    tests.end("functions on the page of programs")
+def head_of(lines):
+    """The names of what a function is given except itself, and whether it gives a result."""
+    given, result = HEAD.match(" ".join(" ".join(lines).split())).groups()
+    given = [it.split(":")[0] for it in re.split(r",\s*", given.strip(" ,")) if it]
+    return ([it for it in given if not it.endswith("self")], (result or "").startswith("Result<"))
 
 
 def likeness(first, second):
     """How many words two texts have in common, of those that one of them has."""
     first, second = ({*re.findall(r"\w+", text.lower())} for text in (first, second))
     return len(first & second) / len(first | second)
+
+
+def exchanged(described):
+    """The names of each two that seem to have each other's words, of words on a page and in the
+    code by names: with these exchanged they would be no less alike."""
+    for (one, words), (other, others) in itertools.combinations(described.items(), 2):
+        now = likeness(*words) + likeness(*others)
+        if now <= likeness(words[0], others[1]) + likeness(others[0], words[1]):
+            yield one, other
+
+
+def functions_of_programs(tests):
+    """The functions of the page have contracts, are given as many arguments as are shown, and give
+    a result where a question mark stands. And no two rows seem to have each other's words."""
+    functions, owner, described = contracts_of_functions(), "", {}
+    for names, makes in rows(tests, "function | makes"):
+        comments = []
+        for shown in QUOTED.findall(names):
+            found = SHOWN.fullmatch(shown)
+            owner = found["owner"] or owner
+            what, lines = functions.get(f"{owner}::{found['name']}", ("", None))
+            tests.expect(lines, f"{shown}: there is no such function of {owner}")
+            comments.append(what)
+            if lines and found["given"]:
+                given, is_result = head_of(lines)
+                shown_given = found["given"].split(", ")
+                tests.expect(len(given) == len(shown_given) and is_result == bool(found["asks"]),
+                             f"{shown} is given {given}, and gives a result: {is_result}")
+        described[names] = (makes, " ".join(comments))
+    both = list(exchanged(described))
+    tests.expect(not both, f"functions with each other's words: {both}")
+    tests.end("functions on the page of programs")
+
+
+def functions_without_ensures():
+    """The public functions of libraries that have no clause `ensures`."""
+    for folder in sorted(glob.glob(os.path.join(CRATES, "*", "src"))):
+        if os.path.isfile(os.path.join(folder, "lib.rt")):
+            for path in glob.glob(os.path.join(folder, "**", "*.rt"), recursive=True):
+                lines = contracts.lines_of(path)
+                for function in contracts.functions_in(lines):
+                    clauses = contracts.clauses_after(lines, function.start, function.indent)
+                    if function.is_public and not any(it.startswith("ensures") for it in clauses):
+                        yield function.name
+
+
+def functions_without_clauses(tests):
+    """The functions without `ensures` are those that the page of proofs names, and as many."""
+    page = " ".join(read(DOCS, "proofs.md").split())
+    said = re.search(r"(\w+) functions have no `ensures`:(.*?)\. [A-Z]", page)
+    words = QUOTED.findall(said[2]) if said else []
+    named = sorted(it.split("::")[-1] for it in words if it.split("::")[-1].islower())
+    there = [it.split("::") for it in sorted(functions_without_ensures())]
+    tests.expect(named == sorted(it[-1] for it in there), f"{named} on the page, and {there}")
+    tests.expect(said and number_in(said[1]) == len(there), f"{said and said[1]}, and {there}")
+    owners = {it.split("::")[0] for it in words}
+    tests.expect(owners >= {it[0] for it in there}, f"of {owners} on the page, and {there}")
+    tests.end("functions without clauses on the page of proofs")
 
 
 def laws(tests):
@@ -1148,10 +1279,9 @@ def laws(tests):
     tests.expect(sorted(said) == sorted(comments), f"the laws on the page are {said}")
     tests.expect(turned == {*comments}, f"wrong definitions, or laws: {turned ^ {*comments}}")
     tests.expect(specs == {*comments}, f"in the specs, or proved: {specs ^ {*comments}}")
-    for one, other in itertools.combinations(comments.keys() & words.keys(), 2):
-        now = likeness(words[one], comments[one]) + likeness(words[other], comments[other])
-        then = likeness(words[one], comments[other]) + likeness(words[other], comments[one])
-        tests.expect(now > then, f"{one} and {other} seem to have each other's words")
+    described = {name: (words[name], comments[name]) for name in comments.keys() & words.keys()}
+    both = list(exchanged(described))
+    tests.expect(not both, f"laws with each other's words: {both}")
     tests.end("the page of laws")
 
 
@@ -1217,7 +1347,9 @@ def numbers_of_pages(tests):
     for page, words, path, name in NUMBERS_ON_PAGES:
         found = re.search(words, " ".join(read(DOCS, page).split()))
         number = number_in(found[1]) if found else None
-        constant = constants_of(path).get(name)
+        constant = constants_of(path).get(name.removesuffix(" + 1"))
+        if constant is not None:
+            constant += name.endswith(" + 1")
         tests.expect(number is not None and number == constant,
                      f"{page}: {words}: {number}, and {name} is {constant}")
     count = re.findall(r"It has (\d+) calls", read(DOCS, "..", "README.md"))
@@ -1249,9 +1381,11 @@ def main(path):
     codes(tests)
     reasons(tests)
     statuses(tests)
+    statuses_of_cases(tests)
     names_of_mechanisms(tests)
     names_of_arguments(tests)
     functions_of_programs(tests)
+    functions_without_clauses(tests)
     laws(tests)
     races_of_threads(tests)
     sketch_of_call(tests)

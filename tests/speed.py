@@ -18,9 +18,12 @@ FIRST_CALLS = ["1 InitToken 31323334", "1 OpenSession 6"]
 TRIES, MOST_TRIES = 3, 12
 
 # How many objects there are, in scripts that are compared, and how many searches among the few and
-# among the many.
-FEW, MANY = 20_000, 80_000
-SEARCHES, SEARCHES_OF_MANY = 2_000, 500
+# among the most. What gets slower behind a number of objects below the few is slow among fewer.
+FEWER, FEW, MANY, MOST = 5_000, 20_000, 80_000, 280_000
+SEARCHES, SEARCHES_OF_MOST = 2_000, 60
+
+# What stands before and behind the number in a long label.
+LONG_FRONT, LONG_END = "61" * 14, "62" * 14
 
 
 def seconds_of(tests, calls):
@@ -49,9 +52,9 @@ def least_seconds(tests, scripts, holds):
     return least
 
 
-def creations(count):
+def creations(count, front="", end=""):
     """Calls that create data objects, each with a label and an application of its own."""
-    return [f"1 CreateObject 1 0=0000000000000000,3={number:08x},10={number:08x}"
+    return [f"1 CreateObject 1 0=0000000000000000,3={front}{number:08x}{end},10={number:08x}"
             for number in range(count)]
 
 
@@ -60,10 +63,10 @@ def destructions(count):
     return [f"1 DestroyObject 1 {number + 1}" for number in range(count)]
 
 
-def searches(count, attribute):
-    """Calls that search for one of the objects by this attribute."""
+def searches(count, front, end=""):
+    """Calls that search for one of the objects by a template with its number between these."""
     return [line for number in range(count) for line in (
-        f"1 FindObjectsInit 1 {attribute}={number:08x}", "1 FindObjects 1 2",
+        f"1 FindObjectsInit 1 {front}{number:08x}{end}", "1 FindObjects 1 2",
         "1 FindObjectsFinal 1")]
 
 
@@ -83,10 +86,11 @@ def generations(count):
             for number in range(count)]
 
 
-def private_objects(count):
-    """Calls that create private token objects, with the user logged in, and log the user out."""
+def private_objects(count, is_of_token="01"):
+    """Calls that create private objects, with the user logged in, and log the user out. Those that
+    aren't token objects end then."""
     return ["1 Login 1 0 31323334", "1 InitPIN 1 75736572", "1 Logout 1", "1 Login 1 1 75736572",
-            *["1 CreateObject 1 0=0000000000000000,1=01,2=01"] * count, "1 Logout 1"]
+            *[f"1 CreateObject 1 0=0000000000000000,1={is_of_token},2=01"] * count, "1 Logout 1"]
 
 
 def single_results(count):
@@ -95,11 +99,12 @@ def single_results(count):
 
 
 def scattered(count):
-    """Calls that create objects in threes, destroy two of each, and then look at those left."""
+    """Calls that create objects in threes, destroy two of each, and then look at those left, four
+    times at each."""
     made = [line for number in range(count) for line in (
         *["1 CreateObject 1 0=0000000000000000"] * 3,
         f"1 DestroyObject 1 {3 * number + 1}", f"1 DestroyObject 1 {3 * number + 2}")]
-    return made + [f"1 GetAttributeValue 1 {3 * number + 3} 3:8" for number in range(count)]
+    return made + [f"1 GetAttributeValue 1 {3 * number + 3} 3:8" for number in range(count)] * 4
 
 
 def turnover(count):
@@ -141,18 +146,22 @@ def is_faster_by_label(before, with_labels, with_others):
 
 
 def label_searches(tests):
-    """A search by a label passes over most objects without reading them, also where the template
-    begins with another attribute, where the labels were given anew, among keys, and among many."""
-    made, most = creations(FEW), creations(MANY)
-    for first, attributes, other, count in (
-            (made, "3", "10", SEARCHES), (made, "0=0000000000000000,3", "10", SEARCHES),
-            (made + changes(FEW), "3", "10", SEARCHES), (keys(FEW), "3", "102", SEARCHES),
-            (most, "3", "10", SEARCHES_OF_MANY)):
-        scripts = (first, first + searches(count, attributes), first + searches(count, other))
-        times = least_seconds(tests, scripts, is_faster_by_label)
+    """A search by a label passes over most objects without reading them, where labels are long or
+    were given anew, where the template begins with another attribute, among keys, and among many.
+    Each row has calls, the searches behind them by a label, and as many others."""
+    made, most = creations(FEW), creations(MOST)
+    by_label, by_other = searches(SEARCHES, "3="), searches(SEARCHES, "10=")
+    for first, labels, others in (
+            (creations(FEW, LONG_FRONT, LONG_END),
+             searches(SEARCHES, "3=" + LONG_FRONT, LONG_END), by_other),
+            (made, searches(SEARCHES, "0=0000000000000000,3="), by_other),
+            (made + changes(FEW), by_label, by_other),
+            (keys(FEW), by_label, searches(SEARCHES, "102=")),
+            (most, searches(SEARCHES_OF_MOST, "3="), searches(SEARCHES_OF_MOST, "10="))):
+        times = least_seconds(tests, (first, first + labels, first + others), is_faster_by_label)
         tests.expect(is_faster_by_label(*times),
-                     f"{len(first)} calls took {times[0]:.3f} s, with {count} searches by "
-                     f"{attributes} {times[1]:.3f} s, by {other} {times[2]:.3f} s")
+                     f"{len(first)} calls took {times[0]:.3f} s, with {len(labels)} as {labels[0]} "
+                     f"{times[1]:.3f} s, with as many as {others[0]} {times[2]:.3f} s")
     tests.end("searches by label")
 
 
@@ -160,17 +169,19 @@ def label_searches(tests):
 EVEN = [
     ("creations", creations),
     ("creations and destructions", lambda count: creations(count) + destructions(count)),
-    ("results of a search, one by one,", lambda count: creations(count) + single_results(count)),
+    ("results of a search, one by one", lambda count: creations(count) + single_results(count)),
     ("objects among missing ones", scattered),
     ("objects that come and go in twos beside others", turnover),
-    ("sessions with an object each, one after the other,", lambda count: sessions(count, 1)),
-    ("sessions with two objects each, one after the other,", lambda count: sessions(count, 2)),
-    ("sessions that are all closed, with two objects,",
+    ("sessions with an object each, one after the other", lambda count: sessions(count, 1)),
+    ("sessions with two objects each, one after the other", lambda count: sessions(count, 2)),
+    ("sessions that are all closed, with two objects",
      lambda count: sessions(count, 2, "CloseAllSessions")),
     ("sessions beside objects of another", lambda count: creations(count) + sessions(count)),
     ("logins beside objects", lambda count: creations(count) + logins(count)),
     ("logins beside private objects",
      lambda count: private_objects(count) + logins(count, "1 Login 1 1 75736572")),
+    ("logins behind private objects that have ended",
+     lambda count: private_objects(count, "00") + logins(count, "1 Login 1 1 75736572")),
     ("changes of labels", lambda count: creations(count) + changes(count)),
     ("copies of one object", lambda count: creations(1) + copies(count)),
     ("generated keys", generations),
@@ -178,17 +189,20 @@ EVEN = [
 ]
 
 
-def grows_evenly(few, many):
-    """Whether four times as many take less than eight times as long."""
-    return many < 8 * few
+def grows_evenly(*times):
+    """Whether each four times as many take more than twice as long, and less than eight times.
+    Where they take less, it is the fewer that take too long."""
+    return all(2 * few < many < 8 * few for few, many in zip(times, times[1:]))
 
 
 def even_times(tests):
-    """Four times as many take less than eight times as long."""
+    """Four times as many take more than twice as long, and less than eight times. A template of
+    fewer items is read too soon to be compared."""
     for what, calls_of in EVEN:
-        few, many = least_seconds(tests, (calls_of(FEW), calls_of(MANY)), grows_evenly)
-        tests.expect(grows_evenly(few, many),
-                     f"{FEW} {what} took {few:.3f} s, {MANY} took {many:.3f} s")
+        counts = (FEW, MANY) if calls_of == long_template else (FEWER, FEW, MANY)
+        times = least_seconds(tests, [calls_of(count) for count in counts], grows_evenly)
+        tests.expect(grows_evenly(*times), f"{what}: " + ", ".join(
+            f"{count} took {seconds:.3f} s" for count, seconds in zip(counts, times)))
     tests.end("times among many")
 
 

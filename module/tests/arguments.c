@@ -266,6 +266,27 @@ void *zeros_new(size_t count, size_t size) {
     return memory;
 }
 
+/* Templates of the most attributes aren't refused for their number. Those that go by a line are
+ * too long for one. */
+static void check_longest_templates(CK_SESSION_HANDLE session, CK_OBJECT_HANDLE object,
+                                    CK_ATTRIBUTE *labels) {
+    CK_MECHANISM generation = mechanism_of(CKM_GENERIC_SECRET_KEY_GEN);
+    CK_OBJECT_HANDLE other = 0;
+    for (CK_ULONG i = 0; i < MOST_ATTRIBUTES; i++)
+        labels[i] = (CK_ATTRIBUTE){CKA_LABEL, NULL, 0};
+    CK_RV code = p11->C_FindObjectsInit(session, labels, MOST_ATTRIBUTES);
+    check_code(code, has_journals ? CKR_HOST_MEMORY : CKR_OK, "C_FindObjectsInit of the most");
+    code = p11->C_CreateObject(session, labels, MOST_ATTRIBUTES, &other);
+    check_code(code, has_journals ? CKR_HOST_MEMORY : CKR_TEMPLATE_INCOMPLETE,
+               "C_CreateObject of the most");
+    EXPECT(CKR_HOST_MEMORY,
+           p11->C_CopyObject(session, object, labels, MOST_ATTRIBUTES, &other));
+    EXPECT(CKR_HOST_MEMORY, p11->C_SetAttributeValue(session, object, labels, MOST_ATTRIBUTES));
+    EXPECT(CKR_HOST_MEMORY,
+           p11->C_GenerateKey(session, &generation, labels, MOST_ATTRIBUTES, &other));
+    CHECK(other == 0);
+}
+
 /* By lines the call is too long for one. */
 static void test_most_attributes(void) {
     CK_SESSION_HANDLE session = begin_token();
@@ -286,6 +307,7 @@ static void test_most_attributes(void) {
     check_code(code, has_journals ? CKR_HOST_MEMORY : CKR_OK, "the most attributes");
     CHECK(has_journals || many[MOST_ATTRIBUTES - 1].ulValueLen == 5);
     CHECK(many[MOST_ATTRIBUTES].ulValueLen == 77);
+    check_longest_templates(session, object, many);
     free(many);
     end_token();
 }
@@ -320,20 +342,92 @@ static void test_longest_value(void) {
     end_token();
 }
 
+/* No session has such a handle, although one has its lower 32 bits. */
+static void check_session_and_objects(CK_SESSION_HANDLE session, CK_OBJECT_HANDLE object,
+                                      CK_OBJECT_HANDLE key) {
+    CK_OBJECT_CLASS class = CKO_DATA;
+    CK_ULONG size = 16;
+    CK_MECHANISM generation = mechanism_of(CKM_GENERIC_SECRET_KEY_GEN);
+    CK_ATTRIBUTE data = {CKA_CLASS, &class, sizeof class}, label = {CKA_LABEL, bytes, 5};
+    CK_ATTRIBUTE query = {CKA_LABEL, NULL, 0}, value_length = {CKA_VALUE_LEN, &size, sizeof size};
+    CK_OBJECT_HANDLE handle = 0;
+    EXPECT(CKR_SESSION_HANDLE_INVALID, p11->C_CreateObject(session, &data, 1, &handle));
+    EXPECT(CKR_SESSION_HANDLE_INVALID, p11->C_CopyObject(session, object, NULL, 0, &handle));
+    EXPECT(CKR_SESSION_HANDLE_INVALID,
+           p11->C_GenerateKey(session, &generation, &value_length, 1, &handle));
+    EXPECT(CKR_SESSION_HANDLE_INVALID, p11->C_GetObjectSize(session, object, &size));
+    EXPECT(CKR_SESSION_HANDLE_INVALID, p11->C_GetAttributeValue(session, object, &query, 1));
+    EXPECT(CKR_SESSION_HANDLE_INVALID, p11->C_SetAttributeValue(session, object, &label, 1));
+    EXPECT(CKR_SESSION_HANDLE_INVALID, vendor_functions()->C_SetKeyState(session, key, 5));
+    EXPECT(CKR_SESSION_HANDLE_INVALID, p11->C_DestroyObject(session, object));
+    EXPECT(CKR_SESSION_HANDLE_INVALID, p11->C_FindObjectsInit(session, NULL, 0));
+    EXPECT(CKR_SESSION_HANDLE_INVALID, p11->C_FindObjects(session, &handle, 1, &length));
+    EXPECT(CKR_SESSION_HANDLE_INVALID, p11->C_FindObjectsFinal(session));
+    CHECK(handle == 0);
+}
+
+static void check_session_and_messages(CK_SESSION_HANDLE session, CK_OBJECT_HANDLE key) {
+    CK_MECHANISM sha256 = mechanism_of(CKM_SHA256), hmac = mechanism_of(CKM_SHA256_HMAC);
+    CK_BYTE out[32];
+    length = sizeof out;
+    EXPECT(CKR_SESSION_HANDLE_INVALID, p11->C_DigestInit(session, &sha256));
+    EXPECT(CKR_SESSION_HANDLE_INVALID, p11->C_DigestUpdate(session, bytes, 5));
+    EXPECT(CKR_SESSION_HANDLE_INVALID, p11->C_DigestFinal(session, out, &length));
+    EXPECT(CKR_SESSION_HANDLE_INVALID, p11->C_Digest(session, bytes, 5, out, &length));
+    EXPECT(CKR_SESSION_HANDLE_INVALID, p11->C_SignInit(session, &hmac, key));
+    EXPECT(CKR_SESSION_HANDLE_INVALID, p11->C_SignUpdate(session, bytes, 5));
+    EXPECT(CKR_SESSION_HANDLE_INVALID, p11->C_SignFinal(session, out, &length));
+    EXPECT(CKR_SESSION_HANDLE_INVALID, p11->C_Sign(session, bytes, 5, out, &length));
+    EXPECT(CKR_SESSION_HANDLE_INVALID, p11->C_VerifyInit(session, &hmac, key));
+    EXPECT(CKR_SESSION_HANDLE_INVALID, p11->C_VerifyUpdate(session, bytes, 5));
+    EXPECT(CKR_SESSION_HANDLE_INVALID, p11->C_VerifyFinal(session, bytes, 32));
+    EXPECT(CKR_SESSION_HANDLE_INVALID, p11->C_Verify(session, bytes, 5, bytes, 32));
+    EXPECT(CKR_SESSION_HANDLE_INVALID, p11->C_SessionCancel(session, CKF_DIGEST));
+    EXPECT(CKR_SESSION_HANDLE_INVALID, p11->C_GenerateRandom(session, out, sizeof out));
+    EXPECT(CKR_SESSION_HANDLE_INVALID, p11->C_SeedRandom(session, bytes, 5));
+}
+
+static void check_session_and_pins(CK_SESSION_HANDLE session) {
+    CK_SESSION_INFO info;
+    EXPECT(CKR_SESSION_HANDLE_INVALID, p11->C_GetSessionInfo(session, &info));
+    EXPECT(CKR_SESSION_HANDLE_INVALID, p11->C_Login(session, CKU_USER, user_pin, 4));
+    EXPECT(CKR_SESSION_HANDLE_INVALID, p11->C_InitPIN(session, user_pin, 4));
+    EXPECT(CKR_SESSION_HANDLE_INVALID, p11->C_SetPIN(session, user_pin, 4, user_pin, 4));
+    EXPECT(CKR_SESSION_HANDLE_INVALID, p11->C_Logout(session));
+    EXPECT(CKR_SESSION_HANDLE_INVALID, p11->C_CloseSession(session));
+}
+
+/* The room is said to be for more than a list has. Of handles there is as much as the module asks
+ * for at once, and more. */
+static void check_high_rooms(CK_SESSION_HANDLE session, CK_ULONG room) {
+    static CK_OBJECT_HANDLE handles[5000];
+    CK_SLOT_ID slots[1];
+    CK_MECHANISM_TYPE types[13];
+    CK_INTERFACE interfaces[3];
+    CK_ULONG count = room;
+    EXPECT(CKR_OK, p11->C_GetSlotList(CK_TRUE, slots, &count));
+    CHECK(count == 1);
+    count = room;
+    EXPECT(CKR_OK, p11->C_GetMechanismList(0, types, &count));
+    CHECK(count == 13);
+    count = room;
+    EXPECT(CKR_OK, p11->C_GetInterfaceList(interfaces, &count));
+    CHECK(count == 3);
+    EXPECT(CKR_OK, p11->C_FindObjects(session, handles, room, &count));
+    CHECK(count == 2);
+}
+
 /* Numbers are compared with all their bits. */
 static void test_high_numbers(void) {
     const CK_ULONG high = (CK_ULONG)1 << 32;
     CK_SESSION_HANDLE session = begin_token();
     CK_OBJECT_HANDLE object = create_data(session, "label"), key = create_key(session, "Jefe");
-    CK_MECHANISM sha256 = mechanism_of(CKM_SHA256), hmac = mechanism_of(CKM_SHA256_HMAC);
+    CK_MECHANISM sha256 = mechanism_of(CKM_SHA256);
     CK_MECHANISM high_sha256 = mechanism_of(CKM_SHA256 + high);
     CK_MECHANISM high_hmac = mechanism_of(CKM_SHA256_HMAC + high);
     CK_MECHANISM_INFO mechanism_info;
-    CK_SESSION_INFO session_info;
     CK_ATTRIBUTE label = {CKA_LABEL + high, NULL, 0};
-    CK_BYTE out[32];
     CK_ULONG size = 0;
-    length = sizeof out;
     EXPECT(CKR_MECHANISM_INVALID, p11->C_DigestInit(session, &high_sha256));
     EXPECT(CKR_MECHANISM_INVALID, p11->C_SignInit(session, &high_hmac, key));
     EXPECT(CKR_MECHANISM_INVALID, p11->C_GetMechanismInfo(0, CKM_SHA256 + high, &mechanism_info));
@@ -342,18 +436,11 @@ static void test_high_numbers(void) {
     EXPECT(CKR_OBJECT_HANDLE_INVALID, p11->C_DestroyObject(session, object + high));
     EXPECT(CKR_OK, p11->C_DigestInit(session, &sha256));
     EXPECT(CKR_OK, p11->C_FindObjectsInit(session, NULL, 0));
-    EXPECT(CKR_SESSION_HANDLE_INVALID, p11->C_DigestInit(session + high, &sha256));
-    EXPECT(CKR_SESSION_HANDLE_INVALID, p11->C_DigestUpdate(session + high, bytes, 5));
-    EXPECT(CKR_SESSION_HANDLE_INVALID, p11->C_DigestFinal(session + high, out, &length));
-    EXPECT(CKR_SESSION_HANDLE_INVALID, p11->C_SignInit(session + high, &hmac, key));
-    EXPECT(CKR_SESSION_HANDLE_INVALID, p11->C_FindObjectsFinal(session + high));
-    EXPECT(CKR_SESSION_HANDLE_INVALID, p11->C_SessionCancel(session + high, CKF_DIGEST));
-    EXPECT(CKR_SESSION_HANDLE_INVALID, p11->C_GenerateRandom(session + high, out, sizeof out));
-    EXPECT(CKR_SESSION_HANDLE_INVALID, p11->C_GetSessionInfo(session + high, &session_info));
-    EXPECT(CKR_SESSION_HANDLE_INVALID, p11->C_DestroyObject(session + high, object));
-    EXPECT(CKR_SESSION_HANDLE_INVALID, p11->C_Logout(session + high));
-    EXPECT(CKR_SESSION_HANDLE_INVALID, p11->C_CloseSession(session + high));
+    check_session_and_objects(session + high, object, key);
+    check_session_and_messages(session + high, key);
+    check_session_and_pins(session + high);
     EXPECT(CKR_SLOT_ID_INVALID, p11->C_CloseAllSessions(high));
+    check_high_rooms(session, high);
     EXPECT(CKR_OK, p11->C_Logout(session));
     EXPECT(CKR_USER_TYPE_INVALID, p11->C_Login(session, CKU_SO + high, so_pin, 4));
     EXPECT(CKR_OK, p11->C_Login(session, CKU_SO, so_pin, 4));

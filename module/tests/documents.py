@@ -5,6 +5,7 @@ Commands are run as they stand, with the module's path in place of the one that 
 lines of a journal that a page shows must stand in the journal that came, in their order. What pages
 quote of the sources must stand there. Scripts are played by crates/ck_run/out/ck_run, and left out
 where it isn't built."""
+import glob
 import os
 import re
 import shutil
@@ -144,7 +145,7 @@ def check_recorded_run(checks, ck_cases, folder):
 
 def check_program_page(checks):
     """The function of docs/rust.md is that of the test, and so are the names that it brings in."""
-    source = text_of("crates/ck_run/src/signing.rt")
+    source = text_of("crates/ck_run/src/tests/signing.rt")
     function = "\n".join(block_with("docs/rust.md", "fn sign("))
     checks.check(function and f"\n{function}\n" in source, "docs/rust.md: the function sign")
     brought = names_brought_in("\n".join(block_with("docs/rust.md", "use ck_token::")))
@@ -178,6 +179,32 @@ def check_quotes(checks):
         # The path of the library is the reader's.
         shown = [line for line in block_with(page, text) if " library = " not in line]
         checks.check(shown and is_quoted(shown, text_of(path)), f"{page}: {text} .. is in {path}")
+
+
+def check_names_of_module(checks):
+    """The variables and the codes that docs/module.md lists are those of the module's sources."""
+    page = "docs/module.md"
+    known = re.findall(r'= "(OSPREYRACK_\w+)";', text_of("module/configuration.c"))
+    said = re.findall(r"^\| `(OSPREYRACK_\w+)` \|", text_of(page), re.MULTILINE)
+    checks.check(len(known) > 1, "module/configuration.c: variables are there")
+    checks.equal(sorted(said), sorted(known), f"{page}: the variables")
+    sources = glob.glob(os.path.join(glob.escape(support.ROOT), "module", "*.c"))
+    of_module = codes_in("".join(map(text_of, sources)))
+    of_token = codes_in(table_with(SCRIPT_PAGE, "| code | name |"))
+    own = codes_in(table_with(page, "| code | when |"))
+    checks.equal(sorted(own), sorted(of_module - of_token), f"{page}: the module's own codes")
+    shared = re.search(r"^(CKR_[^.]*) come from both\.", text_of(page), re.MULTILINE)
+    checks.check(shared and codes_in(shared[1]) <= of_module & of_token,
+                 f"{page}: the codes that come from both")
+
+
+def codes_in(text):
+    return set(re.findall(r"\bCKR_\w+", text))
+
+
+def table_with(path, head):
+    """The rows of the table that begins with this line."""
+    return text_of(path).partition(head + "\n")[2].partition("\n\n")[0]
 
 
 def check_shared_token(checks):
@@ -245,6 +272,8 @@ def check_sources(checks):
     checks.end("the output in docs/threads.md")
     check_quotes(checks)
     checks.end("what pages quote of the sources")
+    check_names_of_module(checks)
+    checks.end("the variables and the codes in docs/module.md")
 
 
 def check_scripts(checks, ck_cases):

@@ -131,6 +131,22 @@ def measure_polling(path):
     print(resident_memory() - before, code, flush=True)
 
 
+def measure_staying(path):
+    """Writes how much memory 150,000 calls took, after 50,000 before them, where a session stays
+    open for each 50,000."""
+    module = support.Module(path)
+    module.call("Initialize", None)
+    module.say("1 InitToken 31323334")
+    for count in range(1, 5):
+        module.say("1 OpenSession 6")
+        for _ in range(50000):
+            module.token_info()
+        reply = module.say(f"1 CloseSession {count}")
+        if count == 1:
+            before = resident_memory()
+    print(resident_memory() - before, reply, flush=True)
+
+
 def measure_line(path, line):
     """The same of one call on a session that isn't open."""
     module = support.Module(path)
@@ -196,6 +212,13 @@ def open_files():
         with contextlib.suppress(FileNotFoundError):
             paths.append(os.readlink(f"/proc/self/fd/{number}"))
     return paths
+
+
+def terminal_of_process():
+    """The number of the terminal that controls this process, or 0 where none does."""
+    with open("/proc/self/stat", encoding="ascii") as file:
+        _, _, fields = file.read().rpartition(") ")
+    return int(fields.split(" ")[4])
 
 
 def files_of_program():
@@ -283,6 +306,7 @@ WORKERS = {
     "asking": lambda path: measure_line(path, "1 GetSessionInfo 7"),
     "exit": exit_in_initialize,
     "starting": lambda path: measure_line(path, "1 DigestInit 7 250"),
+    "staying": measure_staying,
     "unload": unload_and_load,
     "unload_with_functions": unload_with_functions,
 }
@@ -978,6 +1002,40 @@ class Tests:
                               f"call can't be written: the file was {what}\n", "the errors")
             self.end()
 
+    def test_nameless_file(self):
+        """A file that has no name is kept as others are, and a token goes on from it."""
+        with tempfile.TemporaryFile(buffering=0, dir=self.folder) as file:
+            for call, reply in [("1 InitToken 31323334", "0"), ("1 OpenSession 6", "0 1")]:
+                self.begin(TOKEN=f"/proc/self/fd/{file.fileno()}")
+                self.checks.equal(self.module.say(call), reply, call)
+                self.end()
+                file.seek(0)
+                lines = file.read().decode().split("\n")
+                self.checks.check(f"{call} -> {reply}" in lines, f"{call} stands in the file")
+
+    def begin_with_terminal(self, variable, path):
+        """C_Initialize in a new session of processes, which no terminal controls: the terminal
+        before, the code, and the terminal then."""
+        os.setsid()
+        before = terminal_of_process()
+        code, _ = self.initialize(**{variable: path})
+        return [str(before), str(code), str(terminal_of_process())]
+
+    def test_terminal(self):
+        """A terminal that a variable names doesn't control the process from then on."""
+        try:
+            keyboard, terminal = os.openpty()
+        except OSError as reason:
+            raise LeftOut(f"no terminal can be made here: {reason}") from reason
+        path = os.ttyname(terminal)
+        # A script, and the end of what is typed.
+        os.write(keyboard, b"1 InitToken 31323334\n\4")
+        for variable, code in [("SCRIPT", 0), ("JOURNAL", GENERAL_ERROR), ("TOKEN", GENERAL_ERROR)]:
+            with self.child_of_fork(lambda: self.begin_with_terminal(variable, path)) as seen:
+                self.checks.equal(seen, ["0", str(code), "0"], f"the child with {variable}")
+        os.close(keyboard)
+        os.close(terminal)
+
     def test_exec(self):
         """A program that is executed has no descriptor of the file."""
         path = self.file("executed.cases")
@@ -1424,7 +1482,7 @@ class Tests:
     def test_memory(self):
         """OSPREYRACK_CUT=yes keeps memory flat over 200,000 calls, and =no doesn't."""
         for kind, last in [("memory", "0"), ("polling", "0"), ("asking", "b3"),
-                           ("starting", "b3")]:
+                           ("starting", "b3"), ("staying", "0")]:
             self.check_memory(kind, "yes", last, lambda grown: grown < 1 << 20)
             self.check_memory(kind, "no", last, lambda grown: grown > 4 << 20)
 
@@ -1471,17 +1529,17 @@ class Tests:
         self.checks.check(held[-1] < held[2] / 2, f"it is cut while a file is answered: {held}")
 
 
-TESTS = [Tests.test_file, Tests.test_counted_journals, Tests.test_mode, Tests.test_going_on, Tests.test_new_label,
-         Tests.test_no_label, Tests.test_script, Tests.test_script_and_journal,
-         Tests.test_only_reply, Tests.test_calls_beside, Tests.test_callers,
-         Tests.test_bad_pointers, Tests.test_quiet, Tests.test_cut_short, Tests.test_longest_line,
-         Tests.test_line_without_end, Tests.test_absent_script, Tests.test_failed_start,
-         Tests.test_bad_variable_and_file, Tests.test_cut_off,
+TESTS = [Tests.test_file, Tests.test_counted_journals, Tests.test_mode, Tests.test_going_on,
+         Tests.test_new_label, Tests.test_no_label, Tests.test_script,
+         Tests.test_script_and_journal, Tests.test_only_reply, Tests.test_calls_beside,
+         Tests.test_callers, Tests.test_bad_pointers, Tests.test_quiet, Tests.test_cut_short,
+         Tests.test_longest_line, Tests.test_line_without_end, Tests.test_absent_script,
+         Tests.test_failed_start, Tests.test_bad_variable_and_file, Tests.test_cut_off,
          Tests.test_changed, Tests.test_lacking_reply, Tests.test_two_processes,
          Tests.test_second_run, Tests.test_fork, Tests.test_fork_that_stays,
-         Tests.test_unseen_child, Tests.test_closed_file, Tests.test_lost_file, Tests.test_exec,
-         Tests.test_exec_in_script, Tests.test_signals_in_script, Tests.test_exit,
-         Tests.test_waiting, Tests.test_unload,
+         Tests.test_unseen_child, Tests.test_closed_file, Tests.test_lost_file,
+         Tests.test_nameless_file, Tests.test_terminal, Tests.test_exec, Tests.test_exec_in_script,
+         Tests.test_signals_in_script, Tests.test_exit, Tests.test_waiting, Tests.test_unload,
          Tests.test_unload_with_functions, Tests.test_rights, Tests.test_kills, Tests.test_full,
          Tests.test_filling, Tests.test_filling_in_update, Tests.test_filling_in_search,
          Tests.test_pieces_of_search, Tests.test_time_of_lines, Tests.test_seed,

@@ -373,6 +373,19 @@ static void note_times(CK_RV (*make)(void), CK_RV expected, const char *what) {
     EXPECT(CKR_OK, p11->C_SessionCancel(current_session, all));
 }
 
+static CK_RV ask_for_session(void) {
+    CK_SESSION_INFO info;
+    return p11->C_GetSessionInfo(current_session, &info);
+}
+
+static void ask_often_for_session(void) {
+    enum { MANY_CALLS = 20000 };
+    int refused = 0;
+    for (int i = 0; i < MANY_CALLS; i++)
+        refused += ask_for_session() != CKR_OK;
+    CHECK(refused == 0);
+}
+
 static long long least(long long one, long long other) {
     return one < other ? one : other;
 }
@@ -391,9 +404,11 @@ static void check_work_without_lock(CK_RV (*make)(void), CK_RV expected, const c
     check(without_lock > 5 * under_lock, what);
 }
 
+/* However long the journal in memory is: it isn't cut while a session is open. */
 static void test_work_without_lock(void) {
     fill_large();
     begin_with_mutexes();
+    ask_often_for_session();
     current_key = create_key(current_session, "Jefe");
     check_work_without_lock(digest_piece, CKR_OK, "C_Digest");
     check_work_without_lock(digest_update_piece, CKR_OK, "C_DigestUpdate");
@@ -466,11 +481,6 @@ static void test_update_and_another_token(void) {
 
 static CK_RV update_with_pieces(void) {
     return p11->C_DigestUpdate(current_session, large, LARGE);
-}
-
-static CK_RV ask_for_session(void) {
-    CK_SESSION_INFO info;
-    return p11->C_GetSessionInfo(current_session, &info);
 }
 
 /* The new token has an update whose lock fails, too. */

@@ -144,11 +144,13 @@ static void test_token_info(void) {
     end_token();
 }
 
-/* The label stays where C_InitToken is refused. */
+/* The label stays where C_InitToken is refused. It may have any bytes, a zero byte among them. */
 static void test_label(void) {
     CK_UTF8CHAR other[32];
     CK_TOKEN_INFO info;
     memset(other, 'x', sizeof other);
+    other[7] = 0;
+    other[31] = 0xff;
     CK_SESSION_HANDLE session = begin_token();
     EXPECT(CKR_SESSION_EXISTS, p11->C_InitToken(0, so_pin, 4, other));
     EXPECT(CKR_OK, p11->C_CloseSession(session));

@@ -2,6 +2,7 @@
 //! caller under the lock.
 use crate::sections::Section;
 use crate::times::Times;
+use anyhow::Result;
 use ck_audit::{Verdict, audit_token};
 use ck_shared::{Caller, CallerWork, Gate, Runtime, TokenId, share};
 use ck_token::{Call, Limits, NoMemory, Reply, Rv, Token};
@@ -55,7 +56,7 @@ fn measure_section<R: CpuClock + Print, T: Target>(
     target: &mut T,
     section: &Section,
     times: Times,
-) -> anyhow::Result<()> {
+) -> Result<()> {
     let Section { name, calls } = section;
     let before = rt.process_cpu_time()?;
     let refused = make_calls(target, alloc, calls)?;
@@ -71,7 +72,7 @@ fn measure_all<R: CpuClock + Print, T: Target>(
     target: &mut T,
     sections: &[Section],
     times: Times,
-) -> anyhow::Result<()> {
+) -> Result<()> {
     for section in sections {
         measure_section(rt, alloc, target, section, times)?;
     }
@@ -80,12 +81,7 @@ fn measure_all<R: CpuClock + Print, T: Target>(
 
 /// Audits the journal, and writes how many entries it has and, where times are written, the
 /// processor time that it took.
-fn audit<R: CpuClock + Print>(
-    rt: &R,
-    alloc: Global,
-    token: &Token,
-    times: Times,
-) -> anyhow::Result<()> {
+fn audit<R: CpuClock + Print>(rt: &R, alloc: Global, token: &Token, times: Times) -> Result<()> {
     let before = rt.process_cpu_time()?;
     let is_legal = audit_token(alloc, token)? == Verdict::Legal;
     let time = rt.process_cpu_time()?.saturating_sub(before);
@@ -99,7 +95,7 @@ pub(crate) fn measure_unshared<R: CpuClock + Print>(
     alloc: Global,
     sections: &[Section],
     times: Times,
-) -> anyhow::Result<()> {
+) -> Result<()> {
     let mut token = Token::new(alloc, Limits::largest());
     measure_all(rt, alloc, &mut token, sections, times)?;
     audit(rt, alloc, &token, times)
@@ -115,16 +111,11 @@ struct AllSections<'a> {
 impl<'a, R: Wait + CpuClock + Print + AllocGlobal> CallerWork<R> for AllSections<'a> {
     ghost use Rattle.std.specs.Prelude.{⊤};
 
-    type Output = anyhow::Result<()>;
+    type Output = Result<()>;
 
     ghost holds = { λ work before after done. ⊤ };
 
-    fn act<K: TokenId, G: Gate<K>>(
-        &self,
-        rt: &R,
-        gate: &G,
-        caller: &mut Caller<K>,
-    ) -> Self::Output {
+    fn act<K: TokenId, G: Gate<K>>(&self, rt: &R, gate: &G, caller: &mut Caller<K>) -> Result<()> {
         let mut target = CallerTarget { rt, gate, caller };
         measure_all(rt, rt.alloc(), &mut target, self.sections, self.times)
     }
@@ -136,7 +127,7 @@ pub(crate) fn measure_locked<R: CpuClock + Print + Runtime>(
     alloc: Global,
     sections: &[Section],
     times: Times,
-) -> anyhow::Result<()> {
+) -> Result<()> {
     let mut token = Token::new(alloc, Limits::largest());
     let work = AllSections { sections, times };
     for done in share(rt, alloc, &mut token, 1, &work)? {

@@ -208,7 +208,8 @@ impl<'a, R: Wait + Clock + AllocGlobal> CallerWork<R> for Tasks<'a> {
 
     ghost holds = { λ work before after time. ⊤ };
 
-    /// Opens a session, and does the caller's task in it.
+    /// Opens a session, and does the caller's task in it. Then the caller asks once more, since the
+    /// history may have grown long.
     fn act<K: TokenId, G: Gate<K>>(
         &self,
         rt: &R,
@@ -229,6 +230,7 @@ impl<'a, R: Wait + Clock + AllocGlobal> CallerWork<R> for Tasks<'a> {
         let session = client.handle_of(Call::OpenSession { flags })?;
         let done = self.do_task(&mut client, session, *task);
         self.is_done.store(true, Ordering::SeqCst);
+        client.ask(session)?;
         done
     }
 }

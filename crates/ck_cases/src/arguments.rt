@@ -26,7 +26,7 @@ A line 'limits' begins a new token: 'limits largest', or four numbers as in
 and behind the arrow the recorded reply, if there is one. 'ck_cases token.cases'
 makes the calls on a new token and writes
 
-  token.cases: line 5: 1 Login 1 1 393939: came 102 CKR_USER_PIN_NOT_INITIALIZED, and not 0 CKR_OK
+  token.cases: line 5: 1 Login 1 1 393939: got 102 CKR_USER_PIN_NOT_INITIALIZED, expected 0 CKR_OK
   token.cases: 2 passed, 1 differ
 
 To play the run with other limits, and to keep it with the replies that come:
@@ -97,7 +97,7 @@ fn command<'a>(alloc: Global) -> Result<Command<'a>, AllocError> {
         .value_name("N")
         .value_parser(value_parser!(u64))
         .default_value(MOST_FINDINGS)
-        .help("Name at most N lines of a file that differ or are bad; the others only count");
+        .help("Name at most N lines of a file that differ or are bad; the others are only counted");
     let replies = Arg::new(alloc, "replies")
         .long("replies")
         .action(ArgAction::SetTrue)

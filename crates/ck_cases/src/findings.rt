@@ -29,8 +29,8 @@ impl fmt::Display for Finding<'_> {
                 came,
                 recorded,
             } => {
-                write!(f, "{}: came {}", Shortened(action), NamedReply(came))?;
-                write!(f, ", and not {}", NamedReply(recorded))?;
+                write!(f, "{}: got {}", Shortened(action), NamedReply(came))?;
+                write!(f, ", expected {}", NamedReply(recorded))?;
                 match hidden_difference(came, recorded) {
                     Some(number) => write!(f, " (they differ from character {number} on)"),
                     None => Ok(()),

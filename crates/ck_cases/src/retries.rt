@@ -6,7 +6,7 @@ use ck_token::{Call, Journal, Limits, NoMemory, Reply, Token, Uncut};
 use std::alloc::Global;
 
 /// What is said of a second try that finds no memory either.
-const AGAIN: &str = "memory lacks a second time";
+const AGAIN: &str = "out of memory a second time";
 
 /// A token, and how many times it found no memory. What found none must have left the journal as
 /// long as it was, and legal.

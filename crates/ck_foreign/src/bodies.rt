@@ -25,8 +25,17 @@ pub struct TokenInfo {
     pub rw_sessions: u64,
 }
 
-/// The answer to a query. Its kind is 0: unavailable; 1: the value's length in bytes; 2: the value,
-/// which has this length.
+/// What a query of an attribute is answered with, as C numbers it.
+#[derive(Clone, Copy)]
+enum AnswerKind {
+    Unavailable = 0,
+    /// The value's length in bytes.
+    Length = 1,
+    Value = 2,
+}
+
+/// The answer to a query: its kind (`AnswerKind`), and the length of the value in bytes where it is
+/// known, else 0.
 #[repr(C)]
 #[derive(Clone, Copy)]
 pub struct QueryAnswer {
@@ -108,14 +117,17 @@ pub fn answer_in(body: &Body, index: usize) -> QueryAnswer
 {
     match answer_at(body, index) {
         Some(Answer::Value(value)) => QueryAnswer {
-            kind: 2,
+            kind: AnswerKind::Value as u64,
             length: value.as_slice().len() as u64,
         },
         Some(Answer::Length(length)) => QueryAnswer {
-            kind: 1,
+            kind: AnswerKind::Length as u64,
             length: *length,
         },
-        Some(Answer::Unavailable) | None => QueryAnswer { kind: 0, length: 0 },
+        Some(Answer::Unavailable) | None => QueryAnswer {
+            kind: AnswerKind::Unavailable as u64,
+            length: 0,
+        },
     }
 }
 

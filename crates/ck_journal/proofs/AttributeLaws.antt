@@ -25,6 +25,7 @@ use Rattle.ck_objects.specs.declared.items.Item.{Item}
 use Rattle.ck_objects.specs.declared.key_states.KeyState.{KeyState}
 use Rattle.ck_objects.specs.declared.key_states.KeyState.TheVariants as state
 use Rattle.ck_types.specs.declared.errors.RvError.{RvError}
+use Rattle.ck_objects.proofs.ChangeLemmas.{value_at-given, value_at-with_given}
 use Rattle.ck_objects.proofs.GivenLemmas.{attribute_of-type_of}
 use Rattle.ck_journal.specs.declared.calls.Entry.{Entry}
 use Rattle.ck_journal.specs.Answers.{transition_error}
@@ -40,40 +41,7 @@ use Rattle.ck_journal.proofs.LegalLemmas.{last-passes, later-passes, object_move
 use Rattle.ck_journal.proofs.NameLemmas.{found-named}
 use Rattle.ck_journal.proofs.ProtectionLaws.{fronts-keep}
 
--- ---- the value of a type
-
-module _ (template : List Item) (kind : ℕ) where
-  given-first : (same : Bool) (item : Item) (was now : Option Item) → item.kind == kind ≡ same
-      → option_map (λ (i : Item). i.value) now
-      ≡ option_map (value_or template kind) (option_map (λ (i : Item). i.value) was)
-      → option_map (λ (i : Item). i.value)
-      (cond same (Some (record item { value = value_or template item.kind item.value })) now)
-      ≡ option_map (value_or template kind)
-      (option_map (λ (i : Item). i.value) (cond same (Some item) was))
-  given-first true item was now t later =
-      ap (λ n. Some (value_or template n item.value)) (eqb-true item.kind kind t)
-  given-first false item was now t later = later
-
-  -- is the template's where it gives one
-  value-given : (items : List Item)
-      → value_at (with_given template items) kind
-      ≡ option_map (value_or template kind) (value_at items kind)
-  value-given [] = refl
-  value-given (item ∷ items) =
-      given-first (item.kind == kind) item (find (λ (i : Item). i.kind == kind) items)
-      (find (λ (i : Item). i.kind == kind) (with_given template items)) refl (value-given items)
-
-  -- else it stays
-  value-kept : value_at template kind ≡ None → (items : List Item)
-      → value_at (with_given template items) kind ≡ value_at items kind
-  value-kept none items =
-      value-given items ∙ kept (value_at template kind) (value_at items kind) none
-    where
-      kept : (given was : Option (List ℕ)) → given ≡ None
-          → option_map (λ value. unwrap_or given value) was ≡ was
-      kept None None e = refl
-      kept None (Some value) e = refl
-      kept (Some other) was e = cc
+-- ---- what a value has passed
 
 module _ (check : Item → Option RvError) (kind : ℕ) (value : List ℕ) where
   passes-first : (same : Bool) (item : Item) (found : Option Item) (later : Option RvError)
@@ -231,11 +199,11 @@ read_only-stays limits =
     (λ a b c first later x t.
     later x (subst (λ cl. is_read_only cl x ≡ true) (sym (class-kept a b first)) t) ∙ first x t)
     (λ template a modifiable fine x t.
-    value-kept template (type_of x)
+    value_at-with_given template (type_of x)
     (not-given a template (class_of a) x (read_only-never (class_of a) x t) fine)
     a)
     (λ s a fine x t.
-    value-kept (state_item s ∷ []) (type_of x)
+    value_at-with_given (state_item s ∷ []) (type_of x)
     (state-gives s (type_of x) (read_only-no_state (class_of a) x t)) a)
 
 -- one of them is CKA_PRIVATE
@@ -265,7 +233,7 @@ unmodifiable-stays limits =
     later (unmodifiable-kept a b first f) kind other ∙ first f kind other)
     (λ template a modifiable fine f kind other. absurd (false≢true (sym f ∙ modifiable)))
     (λ s a fine f kind other.
-    value-kept (state_item s ∷ []) kind (state-gives s kind other) a)
+    value_at-with_given (state_item s ∷ []) kind (state-gives s kind other) a)
 
 -- ---- states of keys
 
@@ -313,7 +281,7 @@ state-changed : (template a : List Item)
     → changed_error (class_of a) (protections_of a) template ≡ None
     → KeepsState a (with_given template a)
 state-changed template a fine s is =
-    let kept = value-kept template (type_of attribute.KeyState)
+    let kept = value_at-with_given template (type_of attribute.KeyState)
     (not-given a template (class_of a) attribute.KeyState refl fine) a in
     (s, ap state_of_value kept ∙ is, omega arith)
 
@@ -324,7 +292,7 @@ state-moved t a fine s is =
     (error_if-none _ rv_error.ActionProhibited fine) in
     let kind = type_of attribute.KeyState in (
       t,
-      ap state_of_value (value-given (state_item t ∷ []) kind a)
+      ap state_of_value (value_at-given (state_item t ∷ []) kind a)
           ∙ state-given t s (value_at a kind) is,
       phase-rises s t (ap (λ o. option_map_or (λ s. may_become s t) o false) (sym is) ∙ may),
     )

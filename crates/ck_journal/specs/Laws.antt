@@ -279,7 +279,7 @@ ReturnedHandlesNameObjects =
     → (n : ℕ) × (object_named (e ◁ h) handle ≡ Some n)
 
 -- the handles name objects that the session's search found when it started and hasn't returned, in
--- the rising order of their numbers, and are at most as many as were asked for
+-- ascending order of their numbers, and are at most as many as were asked for
 pub record ReturnsMatches (h : History) (session max : ℕ) (handles : List ℕ) : Type 0 where
   pub numbers : List ℕ
   pub named : AllZip (λ handle n. object_named h handle ≡ Some n) handles numbers

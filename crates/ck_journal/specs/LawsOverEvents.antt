@@ -4,6 +4,7 @@
 use Rattle.std.specs.Prelude.{◌≡◌, ℕ, suc, ◌≤◌, Bool, true, false, List, [], ◌∷◌, Some, None}
 use Rattle.std.specs.Prelude.{◌==◌, ◌&&◌}
 use Rattle.ck_objects.specs.Attributes.{type_of}
+use Rattle.ck_objects.specs.KeyStates.{state_number}
 use Rattle.ck_objects.specs.Records.{is_set, is_key_class, is_revealable, state_in}
 use Rattle.ck_objects.specs.Templates.{class_of, value_at}
 use Rattle.ck_types.specs.TokenLimits.{Ranges}
@@ -153,14 +154,11 @@ HiddenStays =
 
 -- ---- states of keys
 
--- how far a key has come; active and suspended are one phase, since a key may go to and fro
+-- how far a key has come: its state's number, except that active and suspended are one phase, since
+-- a key may go to and fro
 abbrev pub phase : KeyState → ℕ
-phase state.PreActivation = 0
-phase state.Active = 1
-phase state.Suspended = 1
-phase state.Deactivated = 2
-phase state.Compromised = 3
-phase state.Destroyed = 4
+phase state.Suspended = state_number state.Active
+phase s = state_number s
 
 -- a key never goes back to an earlier phase: what is deactivated, compromised or destroyed isn't
 -- active again, and what is destroyed stays so

@@ -42,7 +42,7 @@ abbrev pub is_match_with : View → List Item → List Item → Bool
 is_match_with view template attributes =
     is_visible_with view attributes && matches attributes template
 
--- the numbers of the objects that are visible and match the template, in rising order
+-- the numbers of the objects that are visible and match the template, in ascending order
 abbrev pub matching_objects : History → List Item → List ℕ
 matching_objects h template =
     filter (λ n. is_some_with (is_match_with (view_of h) template) (object_at h n))

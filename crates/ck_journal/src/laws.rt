@@ -78,7 +78,7 @@ pub fn returned_handles_name_objects()
 {}
 
 /// The handles that C_FindObjects returns name, just before, objects that the search found when it
-/// started and hasn't returned, in the rising order of their numbers, and are at most as many as
+/// started and hasn't returned, in ascending order of their numbers, and are at most as many as
 /// were asked for.
 pub fn searches_return_matches()
     ensures { SearchesReturnMatches }
@@ -298,14 +298,15 @@ pub fn hidden_stays()
     ensures { HiddenStays }
 {}
 
-/// A key that is deactivated, compromised or destroyed isn't active again, nor does any other key
-/// go back to an earlier phase.
+/// A key never goes back to an earlier phase. The phases are pre-activation, active or suspended,
+/// deactivated, compromised, and destroyed.
 pub fn key_states_never_go_back()
     ensures { KeyStatesNeverGoBack }
 {}
 
-/// The class of an object, where it is kept, and what may be done with it never change; nor do the
-/// type of a key, its value, and how it came to be.
+/// CKA_CLASS, CKA_TOKEN, CKA_PRIVATE, CKA_MODIFIABLE, CKA_COPYABLE and CKA_DESTROYABLE of an object
+/// never change; nor do CKA_KEY_TYPE, CKA_VALUE, CKA_VALUE_LEN, CKA_LOCAL, CKA_KEY_GEN_MECHANISM,
+/// CKA_ALWAYS_SENSITIVE and CKA_NEVER_EXTRACTABLE of a key.
 pub fn read_only_attributes_stay()
     ensures { ReadOnlyAttributesStay }
 {}

@@ -44,7 +44,7 @@ module _ (template : List Item) (kind : ℕ) where
   given-first false item items t later = later
 
   -- is the template's where it gives one, else stays
-  value_at-given : (items : List Item)
+  pub value_at-given : (items : List Item)
       → value_at (with_given template items) kind
       ≡ option_map (value_or template kind) (value_at items kind)
   value_at-given [] = refl
@@ -52,7 +52,7 @@ module _ (template : List Item) (kind : ℕ) where
       given-first (item.kind == kind) item items refl (value_at-given items)
 
   -- a type that the template doesn't give keeps its value
-  value_at-with_given : value_at template kind ≡ None → (items : List Item)
+  pub value_at-with_given : value_at template kind ≡ None → (items : List Item)
       → value_at (with_given template items) kind ≡ value_at items kind
   value_at-with_given none items =
       value_at-given items ∙ kept (value_at template kind) (value_at items kind) none

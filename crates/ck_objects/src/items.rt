@@ -77,7 +77,7 @@ pub(crate) fn check_forms(items: &[Item]) -> Result<(), RvError>
     Ok(())
 }
 
-/// Checks of each item that a template of this purpose may give it.
+/// Checks for each item whether a template of this purpose may give it.
 #[tactic(auto, using(ck_types::proofs::CheckLemmas::item_checks))]
 pub(crate) fn check_permissions(
     class: Class,

@@ -53,10 +53,11 @@ impl Parts {
         })
     }
 
-    /// Makes room for what a change adds.
+    /// Makes room for what a change adds. Where there is room already, this takes no memory.
     pub fn reserve(&mut self, change: &Change) -> Result<(), NoMemory>
         ensures agree { (h : History) → PartsAgree h self.old → PartsAgree h self.new }
         ensures room { OnOk result (HasRoom self.new change.now) }
+        ensures has_room { HasRoom self.old change.now → IsOk result }
         ensures succeeds { adds change.now ≡ false → IsOk result }
     {
         match change {

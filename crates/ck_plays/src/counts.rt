@@ -1,7 +1,7 @@
 //! Counts of a device's reads, of the ends that it found, and of its failures. Except for the reads
-//! of a `MemorySource`, only the contracts read them: they say by them how many times the end was
-//! found and a device failed, also where its bytes aren't known. Each count stops at the largest
-//! number of 64 bits.
+//! of a `MemorySource`, only contracts read them. By these counts a contract can say how many times
+//! the end was found and how many times a device failed, even of a device whose bytes aren't known.
+//! Each count stops at the largest number of 64 bits.
 ghost use Rattle.std.specs.Prelude.{◌≡◌, ℕ, suc, List};
 ghost use Rattle.ck_plays.specs.Devices.{Reading, Writing, AreCounts, IsCount, after_read};
 ghost use Rattle.ck_plays.specs.Devices.{after_write};

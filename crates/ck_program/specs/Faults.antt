@@ -3,6 +3,8 @@ use Rattle.std.specs.Prelude.{ℕ, Result, Ok, Err}
 use Rattle.ck_plays.specs.Faults as plays
 use Rattle.ck_plays.specs.declared.faults.PlayFault.{PlayFault}
 use Rattle.ck_plays.specs.declared.faults.PlayFault.TheVariants as play
+use Rattle.ck_program.specs.declared.faults.ArgumentFault.{ArgumentFault}
+use Rattle.ck_program.specs.declared.faults.ArgumentFault.TheVariants as argument
 use Rattle.ck_program.specs.declared.faults.ProgramFault.{ProgramFault}
 use Rattle.ck_program.specs.declared.faults.ProgramFault.TheVariants as fault
 use Rattle.ck_program.specs.declared.faults.ThreadFault.{ThreadFault}
@@ -11,6 +13,11 @@ use Rattle.ck_program.specs.declared.faults.ThreadFault.TheVariants as threads
 abbrev pub program_status_of : ProgramFault → ℕ
 program_status_of (fault.Play f) = plays.status_of f
 program_status_of fault.Thread = 3
+
+-- the status where there are no options
+abbrev pub argument_status_of : ArgumentFault → ℕ
+argument_status_of (argument.Bad reason) = 2
+argument_status_of argument.Memory = 3
 
 -- what threads stopped at, as a fault of the program
 abbrev pub of_threads : ThreadFault → ProgramFault

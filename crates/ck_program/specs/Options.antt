@@ -5,8 +5,8 @@ use Rattle.clap.specs.Words.{App, Rule, Text, IsAmong, fault_of, first_of, match
 use Rattle.clap.specs.Words.{new_rule, with_rule}
 use Rattle.clap.specs.declared.error.kind.ErrorKind.{ErrorKind}
 use Rattle.clap.specs.declared.error.kind.ErrorKind.TheVariants as kind
-use Rattle.ck_program.specs.declared.options.ArgumentFault.{ArgumentFault}
-use Rattle.ck_program.specs.declared.options.ArgumentFault.TheVariants as fault
+use Rattle.ck_program.specs.declared.faults.ArgumentFault.{ArgumentFault}
+use Rattle.ck_program.specs.declared.faults.ArgumentFault.TheVariants as fault
 use Rattle.ck_program.specs.declared.options.BadArguments.TheVariants as bad
 use Rattle.ck_program.specs.declared.options.Options.{Options}
 use Rattle.ck_program.specs.declared.options.Options.TheVariants as option

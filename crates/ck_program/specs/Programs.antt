@@ -9,8 +9,8 @@ use Rattle.ck_plays.specs.declared.faults.PlayFault.TheVariants as fault
 use Rattle.ck_program.specs.Faults.{EndsWithoutThreads}
 use Rattle.ck_program.specs.ThreadPlays.{IsPlayedInThreads}
 use Rattle.ck_program.specs.declared.faults.ProgramFault.{ProgramFault}
-use Rattle.ck_program.specs.declared.options.ArgumentFault.{ArgumentFault}
-use Rattle.ck_program.specs.declared.options.ArgumentFault.TheVariants as argument
+use Rattle.ck_program.specs.declared.faults.ArgumentFault.{ArgumentFault}
+use Rattle.ck_program.specs.declared.faults.ArgumentFault.TheVariants as argument
 use Rattle.ck_program.specs.declared.options.BadArguments.{BadArguments}
 use Rattle.ck_program.specs.declared.options.Options.{Options}
 use Rattle.ck_program.specs.declared.options.Options.TheVariants as option

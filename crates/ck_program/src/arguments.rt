@@ -3,7 +3,8 @@ ghost use Rattle.std.specs.Prelude.{◌≡◌, ◌⊎◌, IfOk, codes, map, opti
 ghost use Rattle.clap.specs.Words.{app_of, first_value, found_of};
 ghost use Rattle.ck_program.specs.Options.{IsAskedBy, IsChosenBy, IsRefusal, callers_in, program};
 
-use crate::options::{ArgumentFault, BadArguments, Callers, Options};
+use crate::faults::ArgumentFault;
+use crate::options::{BadArguments, Callers, Options};
 use ck_journal::MOST_CALLERS;
 use clap::error::ErrorKind;
 use clap::{Arg, ArgMatches, Command, Error};
@@ -38,13 +39,11 @@ fn callers_in(text: &str) -> Option<Callers>
 fn options_in(matches: &ArgMatches<'_>) -> Result<Options, ArgumentFault>
     ensures { IsChosenBy (first_value (found_of matches.now) (codes "callers")) result }
 {
-    match matches.get_str("callers") {
-        Some(text) => match callers_in(text) {
-            Some(callers) => Ok(Options::InThreads(callers)),
-            None => Err(ArgumentFault::Bad(BadArguments::Callers)),
-        },
-        None => Ok(Options::LineByLine),
-    }
+    let Some(text) = matches.get_str("callers") else {
+        return Ok(Options::LineByLine);
+    };
+    let callers = callers_in(text).ok_or(ArgumentFault::Bad(BadArguments::Callers))?;
+    Ok(Options::InThreads(callers))
 }
 
 /// What an error of the command says, without its first word.

@@ -1,12 +1,15 @@
 //! Why the program didn't do what it was asked.
 ghost use Rattle.std.specs.Prelude.{◌≡◌};
-ghost use Rattle.ck_program.specs.Faults.{of_threads, program_status_of};
+ghost use Rattle.ck_program.specs.Faults.{argument_status_of, of_threads, program_status_of};
+ghost use Rattle.ck_program.specs.declared.faults.ArgumentFault.TheVariants as argument;
 ghost use Rattle.ck_program.specs.declared.faults.ProgramFault.TheVariants as fault;
 ghost use Rattle.ck_program.specs.declared.faults.ThreadFault.TheVariants as threads;
 
+use crate::options::BadArguments;
 use ck_plays::PlayFault;
 use ck_types::NoMemory;
 use std::alloc::{AllocError, AllocFailed};
+use std::io;
 use thiserror::Error;
 
 /// Why callers in threads didn't make all their calls.
@@ -63,8 +66,8 @@ impl From<PlayFault> for ProgramFault {
 impl From<ThreadFault> for ProgramFault {
     ghost from_gives = { λ threads made. made ≡ of_threads threads };
 
-    fn from(threads: ThreadFault) -> ProgramFault {
-        match threads {
+    fn from(fault: ThreadFault) -> ProgramFault {
+        match fault {
             ThreadFault::Memory => ProgramFault::Play(PlayFault::Memory),
             ThreadFault::NotStarted => ProgramFault::Thread,
         }
@@ -79,6 +82,45 @@ impl ProgramFault {
         match self {
             ProgramFault::Play(play) => play.status(),
             ProgramFault::Thread => 3,
+        }
+    }
+}
+
+/// Why there are no options: the arguments are bad, or there was no memory.
+#[derive(Debug, Drop, Error)]
+pub enum ArgumentFault {
+    #[error("bad arguments: {0}")]
+    Bad(BadArguments),
+    /// There was no memory to read them.
+    #[error("out of memory")]
+    Memory,
+}
+
+impl From<io::Error> for ArgumentFault {
+    fn from(error: io::Error) -> ArgumentFault {
+        match error.kind() {
+            io::ErrorKind::OutOfMemory => ArgumentFault::Memory,
+            _ => ArgumentFault::Bad(BadArguments::NotText),
+        }
+    }
+}
+
+impl From<AllocError> for ArgumentFault {
+    ghost from_gives = { λ _ made. made ≡ argument.Memory };
+
+    fn from(_error: AllocError) -> ArgumentFault {
+        ArgumentFault::Memory
+    }
+}
+
+impl ArgumentFault {
+    /// The status with which the program ends after the fault: 2 for bad arguments, else 3.
+    pub fn status(&self) -> u8
+        ensures { result ≡ argument_status_of self.now }
+    {
+        match self {
+            ArgumentFault::Bad(_) => 2,
+            ArgumentFault::Memory => 3,
         }
     }
 }

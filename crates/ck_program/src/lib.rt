@@ -12,6 +12,6 @@ mod thread_plays;
 
 pub use arguments::options_of;
 pub use ck_shared::Runtime;
-pub use faults::ProgramFault;
-pub use options::{ArgumentFault, BadArguments, Callers, Options};
+pub use faults::{ArgumentFault, ProgramFault};
+pub use options::{BadArguments, Callers, Options};
 pub use programs::{play_threads, run, run_on_std};

@@ -2,8 +2,6 @@
 ghost use Rattle.std.specs.Prelude.{◌≡◌, ◌≤◌};
 
 use ck_journal::MOST_CALLERS;
-use std::alloc::AllocError;
-use std::io;
 use thiserror::Error;
 
 /// How many callers play a script in threads. The token that they share isn't made yet (ck_callers'
@@ -36,31 +34,4 @@ pub enum BadArguments {
     Callers,
     #[error("an argument isn't text in UTF-8")]
     NotText,
-}
-
-/// Why there are no options: the arguments are bad, or there was no memory.
-#[derive(Debug, Drop)]
-pub enum ArgumentFault {
-    Bad(BadArguments),
-    /// There was no memory to read them.
-    Memory,
-}
-
-impl From<io::Error> for ArgumentFault {
-    fn from(error: io::Error) -> ArgumentFault {
-        match error.kind() {
-            io::ErrorKind::OutOfMemory => ArgumentFault::Memory,
-            _ => ArgumentFault::Bad(BadArguments::NotText),
-        }
-    }
-}
-
-impl From<AllocError> for ArgumentFault {
-    ghost use Rattle.ck_program.specs.declared.options.ArgumentFault.TheVariants as fault;
-
-    ghost from_gives = { λ _ made. made ≡ fault.Memory };
-
-    fn from(_error: AllocError) -> ArgumentFault {
-        ArgumentFault::Memory
-    }
 }

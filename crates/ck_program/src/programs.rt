@@ -6,20 +6,15 @@ ghost use Rattle.ck_program.specs.Programs.{AreBad, IsCarriedOut, IsPlay, IsStat
 ghost use Rattle.ck_program.specs.ThreadPlays.{IsPlayedInThreads};
 ghost use Rattle.ck_program.specs.declared.faults.ProgramFault.{ProgramFault};
 
-use crate::faults::ProgramFault;
-use crate::options::{ArgumentFault, Callers, Options};
+use crate::faults::{ArgumentFault, ProgramFault};
+use crate::options::{Callers, Options};
 use crate::thread_plays::play_calls;
 use ck_journal::JournaledToken;
-use ck_plays::{
-    MOST_READS, PlayFault, ReadSource, Sink, Source, WriteSink, play, read_calls, write_all,
-};
+use ck_plays::{MOST_READS, ReadSource, Sink, Source, WriteSink, play, read_calls, write_all};
 use ck_shared::Runtime;
 use ck_types::Limits;
 use std::alloc::Global;
 use std::io;
-
-/// The status after bad arguments.
-const BAD_ARGUMENTS: u8 = 2;
 
 /// Reads a script whole in at most `most` reads, plays the lines of these callers on a new token,
 /// those of each in a thread of its own, and writes how many entries the journal has and what its
@@ -108,13 +103,9 @@ pub fn run<G: JournaledToken + Send, R: Source, W: Sink, RT: Eprint + Runtime>(
                 fault.status()
             }
         },
-        Err(ArgumentFault::Bad(reason)) => {
-            let _ = eprintln!(&rt; "ck_run: bad arguments: {reason}");
-            BAD_ARGUMENTS
-        }
-        Err(ArgumentFault::Memory) => {
-            let _ = eprintln!(&rt; "ck_run: out of memory");
-            PlayFault::Memory.status()
+        Err(argument_fault) => {
+            let _ = eprintln!(&rt; "ck_run: {argument_fault}");
+            argument_fault.status()
         }
     }
 }

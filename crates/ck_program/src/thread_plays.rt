@@ -25,7 +25,7 @@ use std::marker::Brand;
 
 /// Adds a copy of a call where it is one of this caller.
 // Apart from the loop, so that the proof of the loop has one case.
-fn add_if_by(
+fn add_own_call(
     own: &mut Vec<Call>,
     alloc: Global,
     call: &(u32, Call),
@@ -33,8 +33,9 @@ fn add_if_by(
 ) -> Result<(), NoMemory>
     ensures { OnOk result (own.new.items ≡ own.old.items ++ calls_by number (call.now ∷ [])) }
 {
-    if call.0 == number {
-        own.push(call.1.clone()?)?;
+    let (caller, made) = call;
+    if *caller == number {
+        own.push(made.clone()?)?;
     }
     Ok(())
 }
@@ -45,7 +46,7 @@ fn calls_by(alloc: Global, calls: &[(u32, Call)], number: u32) -> Result<Vec<Cal
 {
     let mut own = Vec::new(alloc);
     for call in calls {
-        add_if_by(&mut own, alloc, call, number)?;
+        add_own_call(&mut own, alloc, call, number)?;
     }
     Ok(own)
 }

@@ -6,12 +6,12 @@ ghost use Rattle.std.specs.Prelude.{◌≡◌, ◌≤◌};
 ghost use Rattle.ck_journal.specs.Histories.{start, start_of};
 
 use crate::journals::check_audit;
-use crate::scripts::{check_taken, scripts_of};
+use crate::scripts::{StepScript, check_taken, scripts_of};
 use crate::shared_work::{Shared, SharedWork, share_with};
 use crate::tokens::{cut_token, initialized_token};
 use anyhow::{Context, bail, ensure};
 use ck_script::reply_line;
-use ck_shared::{Answered, Ask, Caller, News, Runtime, Script, Status, Step, TokenId, run_steps};
+use ck_shared::{Answered, Ask, Caller, News, Runtime, Status, Step, TokenId, run_steps};
 use ck_token::{Call, Limits, NoMemory, Pin, READ_WRITE, Rv, Token, UserType, mechanism_types};
 use std::alloc::Global;
 
@@ -31,8 +31,6 @@ const ALL: u64 = 11;
 
 /// How many times all of it is run, with two callers and with three, on each of three tokens.
 const RUNS: u32 = 100;
-
-type AskingScript<K> = Script<K, Step, Answered>;
 
 /// Whether a question is answered by the reply that has this text.
 fn is_status(alloc: Global, status: &Option<Status>, wanted: &str) -> Result<bool, NoMemory> {
@@ -121,7 +119,7 @@ fn state_after(entries: u64) -> &'static str {
 /// All steps of a script were taken. With each answer comes how many entries the caller knows: it
 /// is that of their state, and what is known stays. A reply makes it more, by the entry of its call
 /// at least. Says how many questions were answered.
-fn check_script<K: TokenId>(alloc: Global, script: &AskingScript<K>) -> anyhow::Result<u64> {
+fn check_script<K: TokenId>(alloc: Global, script: &StepScript<K>) -> anyhow::Result<u64> {
     check_taken(script)?;
     let mut known = FIRST;
     let mut answered = 0u64;
@@ -257,7 +255,7 @@ fn steps_of(alloc: Global, caller: u32, callers: usize) -> anyhow::Result<Vec<St
 /// answered.
 fn check_scripts<K: TokenId>(
     alloc: Global,
-    scripts: Vec<AskingScript<K>>,
+    scripts: Vec<StepScript<K>>,
     callers: &mut Vec<Caller<K>>,
 ) -> anyhow::Result<u64> {
     let mut answered = 0u64;

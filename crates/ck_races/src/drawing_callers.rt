@@ -1,8 +1,7 @@
 //! A caller that draws its calls.
-use crate::journals::CallerReplies;
 use crate::mix::{Handles, LONG, ROWS, SELDOM, SETS, call_of};
 use anyhow::ensure;
-use ck_shared::{Ask, Caller, CallerWork, Gate, TokenId};
+use ck_shared::{Ask, Caller, Gate, TokenId};
 use ck_token::{Body, Reply, Rv};
 use rand_core::{Rng, SeedableRng};
 use rand_xoshiro::Xoshiro256PlusPlus;
@@ -22,7 +21,7 @@ const LONG_IN: u64 = 4;
 /// A caller at a gate, with the sets of handles that it knows, its random numbers and all replies
 /// that it got.
 #[derive(Drop)]
-struct DrawingCaller<'a, 'c, K: TokenId, G, R> {
+pub(crate) struct DrawingCaller<'a, 'c, K: TokenId, G, R> {
     rt: &'a R,
     alloc: Global,
     gate: &'a G,
@@ -52,6 +51,26 @@ fn keep_handle(handles: &Handles, word: &str, reply: &Reply) {
 }
 
 impl<'a, 'c, K: TokenId, G: Gate<K>, R: Wait> DrawingCaller<'a, 'c, K, G, R> {
+    /// A caller that has made no call yet. Its draws follow from its number.
+    pub(crate) fn new(
+        rt: &'a R,
+        alloc: Global,
+        gate: &'a G,
+        caller: &'c mut Caller<K>,
+        sets: &'a [Handles; SETS],
+    ) -> DrawingCaller<'a, 'c, K, G, R> {
+        let draws = Xoshiro256PlusPlus::seed_from_u64(u64::from(caller.number()));
+        DrawingCaller {
+            rt,
+            alloc,
+            gate,
+            caller,
+            sets,
+            replies: Vec::new(alloc),
+            draws,
+        }
+    }
+
     /// Makes one call of a row with these handles, and keeps its reply.
     fn make_call(&mut self, handles: &Handles, text: &str) -> anyhow::Result<()> {
         let (text, word) = text.split_once(" > ").unwrap_or((text, ""));
@@ -72,8 +91,9 @@ impl<'a, 'c, K: TokenId, G: Gate<K>, R: Wait> DrawingCaller<'a, 'c, K, G, R> {
         Ok(())
     }
 
-    /// Makes a drawn row. Then the caller asks for the state of a session without the lock: which
-    /// one it sees depends on the others, and it is always answered.
+    /// Makes a drawn row. Then the caller asks without the lock for the state of a session, for the
+    /// state of the token, and for the mechanisms. What it sees depends on the others, and it is
+    /// always answered.
     fn make_drawn_row(&mut self) -> anyhow::Result<()> {
         let row = row_of(self.draws.next_u64());
         let number = self.draws.next_u64();
@@ -81,56 +101,21 @@ impl<'a, 'c, K: TokenId, G: Gate<K>, R: Wait> DrawingCaller<'a, 'c, K, G, R> {
         let handles = &sets[number as usize % SETS];
         self.make_row(handles, row)?;
         let session = handles.session.load(Ordering::SeqCst);
-        let status = self.gate.status(self.caller, Ask::Session(session));
-        ensure!(status.is_some(), "a question is not answered");
+        for ask in [Ask::Session(session), Ask::Token, Ask::Mechanisms] {
+            let status = self.gate.status(self.caller, ask);
+            ensure!(status.is_some(), "a question is not answered");
+        }
         Ok(())
     }
 
-    /// Draws rows until the caller has made its calls.
-    fn make_calls(&mut self) -> anyhow::Result<()> {
+    /// Draws rows until the caller has made its calls. Gives the replies.
+    pub(crate) fn make(mut self) -> anyhow::Result<Vec<Reply>> {
         // Each row has a call at least, so this many rows are enough. The loop must be seen to end.
         for _ in 0..CALLS {
             if self.replies.len() < CALLS {
                 self.make_drawn_row()?;
             }
         }
-        Ok(())
-    }
-}
-
-/// Drawn calls of callers, which know these handles between them.
-#[derive(Drop)]
-pub(crate) struct DrawnCalls(pub(crate) [Handles; SETS]);
-
-impl<R: Wait + AllocGlobal> CallerWork<R> for DrawnCalls {
-    ghost use Rattle.std.specs.Prelude.{⊤};
-
-    type Output = anyhow::Result<CallerReplies>;
-
-    ghost holds = { λ work before after replies. ⊤ };
-
-    /// The draws follow from the caller's number.
-    fn act<K: TokenId, G: Gate<K>>(
-        &self,
-        rt: &R,
-        gate: &G,
-        caller: &mut Caller<K>,
-    ) -> Self::Output {
-        let alloc = rt.alloc();
-        let number = caller.number();
-        let mut drawing_caller = DrawingCaller {
-            rt,
-            alloc,
-            gate,
-            caller,
-            sets: &self.0,
-            replies: Vec::new(alloc),
-            draws: Xoshiro256PlusPlus::seed_from_u64(u64::from(number)),
-        };
-        drawing_caller.make_calls()?;
-        Ok(CallerReplies {
-            number,
-            replies: drawing_caller.replies,
-        })
+        Ok(self.replies)
     }
 }

@@ -12,7 +12,7 @@ pub(crate) enum Mode {
     /// In threads of the callers.
     InThreads,
     /// One after the other.
-    Alone,
+    InTurn,
 }
 
 impl Mode {
@@ -21,7 +21,7 @@ impl Mode {
     fn counted(self) -> &'static str {
         match self {
             Mode::InThreads => "calls in threads",
-            Mode::Alone => "made again",
+            Mode::InTurn => "made again",
         }
     }
 }
@@ -30,7 +30,7 @@ impl Mode {
 fn run_by<R: Runtime>(rt: R, race: &Race, mode: Mode) -> anyhow::Result<u64> {
     match mode {
         Mode::InThreads => run_race(rt, race),
-        Mode::Alone => retry_race(rt, race),
+        Mode::InTurn => retry_race(rt, race),
     }
 }
 

@@ -5,11 +5,11 @@ use crate::asks::{await_status, check_ask, check_status};
 use crate::gates::HeldGate;
 use crate::journals::check_audit;
 use crate::orders::CallOrder;
-use crate::scripts::{check_taken, scripts_of};
+use crate::scripts::{StepScript, check_taken, scripts_of};
 use crate::shared_work::{Shared, SharedWork, share_with};
 use crate::tokens::initialized_token;
 use anyhow::ensure;
-use ck_shared::{Answered, Ask, Caller, Runtime, Script, Step, TokenId, run_steps};
+use ck_shared::{Answered, Ask, Caller, Runtime, Step, TokenId, run_steps};
 use ck_token::{Body, Call, READ_WRITE, Reply, Rv};
 use std::alloc::Global;
 
@@ -18,8 +18,6 @@ const ASKS: u32 = 100;
 
 /// How many times it is run with each of the two callers as the first one.
 const RUNS: u32 = 100;
-
-type OpeningScript<K> = Script<K, Step, Answered>;
 
 /// What is answered of the token after this many entries: each opens a session.
 fn info_after(entries: u64) -> &'static str {
@@ -60,7 +58,7 @@ fn check_answer(alloc: Global, answer: &Answered) -> anyhow::Result<()> {
 /// were answered.
 fn check_script<K: TokenId>(
     alloc: Global,
-    script: &OpeningScript<K>,
+    script: &StepScript<K>,
     entry: u64,
 ) -> anyhow::Result<u64> {
     check_taken(script)?;
@@ -79,7 +77,7 @@ fn check_script<K: TokenId>(
 /// and the second as the other of two. Says how many steps were answered.
 fn check_scripts<K: TokenId>(
     alloc: Global,
-    scripts: Vec<OpeningScript<K>>,
+    scripts: Vec<StepScript<K>>,
     callers: &mut Vec<Caller<K>>,
     first: u64,
 ) -> anyhow::Result<u64> {

@@ -13,7 +13,7 @@
 //!
 //! What is written is the same in every order of the calls.
 //!
-//! With the word `alone` before the files only the calls of each race are made, one after the
+//! With the word `in-turn` before the files only the calls of each race are made, one after the
 //! other: on a shared token, by `run` and by `run_scripts`. Where there was no memory they are made
 //! again, and the line of a file says how many times that was. The word `reserved` only makes calls
 //! for which room in the journal is reserved, and `reserve` only reserves it.
@@ -41,6 +41,7 @@ mod retried_scripts;
 mod retries;
 mod runs;
 mod scripts;
+mod shared_calls;
 mod shared_work;
 mod sleeping;
 mod tokens;
@@ -100,7 +101,7 @@ fn run_all<R: CpuClock + Env + Files + Runtime>(rt: R, text: &mut String) -> any
     let mut mode = Mode::InThreads;
     for word in env::args(&rt)?.skip(1) {
         match word.as_str() {
-            "alone" => mode = Mode::Alone,
+            "in-turn" => mode = Mode::InTurn,
             "reserve" => {
                 reserved_token(rt.alloc())?;
                 return Ok(());
@@ -109,7 +110,7 @@ fn run_all<R: CpuClock + Env + Files + Runtime>(rt: R, text: &mut String) -> any
             name => run_file(rt, text, name, mode)?,
         }
     }
-    if mode == Mode::Alone {
+    if mode == Mode::InTurn {
         return Ok(());
     }
     run_together(rt, text)

@@ -27,7 +27,7 @@ fn script_of<K: TokenId>(
             );
             Script::new(alloc, caller, calls)
                 .ok()
-                .context("memory lacks a second time")
+                .context("out of memory a second time")
         }
     }
 }
@@ -74,7 +74,7 @@ impl<'a, K: TokenId + Send + Sync, R: Runtime> Shared<'a, K, R> {
         }
         let (caller, answered) = self.make_by_script(caller, left)?;
         callers.push(caller)?;
-        ensure!(answered == left.len(), "memory lacks a second time");
+        ensure!(answered == left.len(), "out of memory a second time");
         Ok(1)
     }
 }

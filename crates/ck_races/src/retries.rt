@@ -79,7 +79,7 @@ impl<'a, K: TokenId, R: Runtime> Shared<'a, K, R> {
             return Ok(false);
         }
         check_unchanged(caller, &before)?;
-        ensure!(self.make_once(other, line)?, "memory lacks a second time");
+        ensure!(self.make_once(other, line)?, "out of memory a second time");
         ensure!(
             other.seen() == entries.saturating_add(1),
             "line {} is not one entry more",

@@ -1,72 +1,21 @@
 //! Runs of a race by callers in threads, with all calls in order and with only the first ones.
-use crate::gates::HeldGate;
 use crate::journals::{
     CallerReplies, check_audit, check_replies, check_token, in_order_of_callers,
 };
 use crate::orders::{CallOrder, reorder};
-use crate::races::{Race, RaceLine};
+use crate::races::Race;
+use crate::shared_calls::SharedCalls;
 use crate::shared_work::{SharedWork, share_with};
 use crate::tokens::{make_calls, prepared_token};
 use anyhow::ensure;
-use ck_shared::{Caller, CallerWork, Gate, Runtime, TokenId, share};
-use ck_token::{NoMemory, Reply, Token};
+use ck_shared::{Runtime, share};
+use ck_token::Token;
 use rand_core::SeedableRng;
 use rand_xoshiro::Xoshiro256PlusPlus;
 use std::alloc::Global;
-use std::sync::Wait;
 
 /// How many times a race is run with all its calls in order, and as many with only the first ones.
 const RUNS: u64 = 100;
-
-/// Calls, the first of which are made in an order of their callers.
-#[derive(Drop)]
-pub(crate) struct OrderedCalls<'a> {
-    pub(crate) lines: &'a [RaceLine<'a>],
-    pub(crate) order: &'a CallOrder<'a>,
-}
-
-impl<'a> OrderedCalls<'a> {
-    /// Makes the calls of a caller, and adds their replies.
-    fn make_own<K: TokenId, G: Gate<K>, R: Wait + AllocGlobal>(
-        &self,
-        rt: &R,
-        gate: &G,
-        caller: &mut Caller<K>,
-        replies: &mut Vec<Reply>,
-    ) -> Result<(), NoMemory> {
-        let alloc = rt.alloc();
-        for line in self.lines {
-            if line.caller == caller.number() {
-                replies.push(gate.call(rt, alloc, caller, line.call.clone()?)?)?;
-            }
-        }
-        Ok(())
-    }
-}
-
-impl<'a, R: Wait + AllocGlobal> CallerWork<R> for OrderedCalls<'a> {
-    ghost use Rattle.std.specs.Prelude.{⊤};
-
-    /// The caller's number and its replies.
-    type Output = anyhow::Result<CallerReplies>;
-
-    ghost holds = { λ work before after replies. ⊤ };
-
-    /// Makes the calls of the caller, each when it is the next one of the order.
-    fn act<K: TokenId, G: Gate<K>>(
-        &self,
-        rt: &R,
-        gate: &G,
-        caller: &mut Caller<K>,
-    ) -> Self::Output {
-        let alloc = rt.alloc();
-        let mut replies = Vec::new(alloc);
-        let held = HeldGate::new(gate, self.order);
-        self.make_own(rt, &held, caller, &mut replies)?;
-        let number = caller.number();
-        Ok(CallerReplies { number, replies })
-    }
-}
 
 /// Checks what came of a race, and what is made afterwards: no call was made too early, each caller
 /// got the replies of its entries, these are as the race says, and the journal is legal. Says how
@@ -92,7 +41,7 @@ fn run_shared<R: Runtime>(rt: R, race: &Race, callers: &[u32]) -> anyhow::Result
     let alloc = rt.alloc();
     let mut token = prepared_token(alloc, race)?;
     let order = CallOrder::new(callers);
-    let calls = OrderedCalls {
+    let calls = SharedCalls::Ordered {
         lines: &race.lines,
         order: &order,
     };

@@ -5,10 +5,13 @@ use crate::orders::CallOrder;
 use crate::races::{Race, RaceLine};
 use crate::shared_work::Shared;
 use anyhow::ensure;
-use ck_shared::{Caller, Gate, Runtime, Script, TokenId, run_scripts};
+use ck_shared::{Answered, Caller, Gate, Runtime, Script, Step, TokenId, run_scripts};
 use ck_token::{Call, NoMemory};
 use std::alloc::Global;
 use std::mem;
+
+/// A script of calls and questions.
+pub(crate) type StepScript<K> = Script<K, Step, Answered>;
 
 /// A script for each of these callers, which it takes, of the steps that are made for its number.
 pub(crate) fn scripts_of<K, S, A, F>(

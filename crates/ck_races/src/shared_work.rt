@@ -6,12 +6,15 @@ ghost use Rattle.ck_callers.specs.Accounts.{name_of};
 use crate::journals::{CallerReplies, check_number};
 use crate::orders::CallOrder;
 use crate::races::Race;
-use anyhow::{bail, ensure};
+use anyhow::{Context, bail, ensure};
 use ck_shared::{Caller, Ends, NewIdentity, Runtime, SharedToken, TokenId};
 use ck_token::{Call, Limits, NoMemory, Reply, Token};
 use std::alloc::Global;
 use std::marker::Brand;
 use std::time::{CpuClock, Duration};
+
+/// How many short calls come before the long messages.
+const SHORT_CALLS: u32 = 2_000;
 
 /// What is done with a shared token and its callers.
 #[derive(Drop)]
@@ -126,6 +129,15 @@ impl<'a, K: TokenId, R: Runtime> Shared<'a, K, R> {
         self.token.call(self.rt, self.rt.alloc(), caller, call)
     }
 
+    /// The first caller makes short calls, so that what comes then has a long history.
+    fn make_short_calls(&self, callers: &mut [Caller<K>]) -> anyhow::Result<()> {
+        let caller = callers.first_mut().context("a caller is missing")?;
+        for _ in 0..SHORT_CALLS {
+            self.make_call(caller, Call::GetTokenInfo)?;
+        }
+        Ok(())
+    }
+
     /// Does the work. All callers stay among these.
     fn act(&self, callers: &mut Vec<Caller<K>>, work: &SharedWork) -> anyhow::Result<Outcome>
     where
@@ -150,10 +162,14 @@ impl<'a, K: TokenId, R: Runtime> Shared<'a, K, R> {
             SharedWork::CallsUnderLock => self.call_under_lock(callers)?,
             SharedWork::CallBesideLock => outcome.replies = self.call_beside_lock(callers)?,
             SharedWork::LongMessages => {
+                self.make_short_calls(callers)?;
                 self.take_in_messages(callers)?;
                 self.add_messages(callers)?;
             }
-            SharedWork::CallsBehindCalls => self.make_calls_behind(callers)?,
+            SharedWork::CallsBehindCalls => {
+                self.make_short_calls(callers)?;
+                self.make_calls_behind(callers)?;
+            }
         }
         Ok(outcome)
     }
@@ -227,7 +243,7 @@ pub(crate) fn share_with<R: Runtime>(
         Ok(done) => done,
         Err(token) => match share_once(rt, token, callers, work) {
             Ok(done) => done,
-            Err(_) => bail!("memory lacks a second time"),
+            Err(_) => bail!("out of memory a second time"),
         },
     }
 }

@@ -6,7 +6,7 @@ ghost use Rattle.std.specs.Prelude.{◌≡◌};
 use crate::journals::{check_audit, check_entries, check_replies, in_order_of_callers};
 use crate::orders::CallOrder;
 use crate::races::races_in;
-use crate::runs::OrderedCalls;
+use crate::shared_calls::SharedCalls;
 use anyhow::{Context, ensure};
 use ck_shared::{Runtime, share};
 use ck_token::{
@@ -120,7 +120,7 @@ pub(crate) fn run_watched<R: Runtime>(rt: R) -> anyhow::Result<u64> {
     let races = races_in(alloc, CALLS)?;
     let race = races.first().context("the calls are missing")?;
     let order = CallOrder::new(&[]);
-    let calls = OrderedCalls {
+    let calls = SharedCalls::Ordered {
         lines: &race.lines,
         order: &order,
     };

@@ -1,32 +1,8 @@
-//! The program ck_run: does what its arguments ask for, from standard input to standard output. The
-//! test modules are those of the program and of the libraries below it. They stand in one crate,
-//! since a crate that has tests is proved a second time.
+//! The program ck_run: does what its arguments ask for, from standard input to standard output.
 #![tactic(auto)]
 
 #[cfg(test)]
-mod audits;
-#[cfg(test)]
-mod cut_scripts;
-#[cfg(test)]
-mod devices;
-#[cfg(test)]
-mod failures;
-#[cfg(test)]
-mod large_sizes;
-#[cfg(test)]
-mod long_lines;
-#[cfg(test)]
-mod long_messages;
-#[cfg(test)]
-mod plays;
-#[cfg(test)]
-mod programs;
-#[cfg(test)]
-mod signing;
-#[cfg(test)]
-mod texts;
-#[cfg(test)]
-mod token;
+mod tests;
 
 use ck_plays::{ReadSource, WriteSink};
 use ck_program::{ArgumentFault, Options, options_of, run_on_std};

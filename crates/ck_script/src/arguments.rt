@@ -32,7 +32,7 @@ pub(crate) const EQUALS_SIGN: u8 = b'=';
 /// The byte that stands for nothing.
 pub(crate) const DASH: u8 = b'-';
 
-/// A digit of a code number: only lower case.
+/// Whether the byte is a digit of a code number. Letters are in lower case.
 fn is_code_digit(byte: u8) -> bool
     ensures { result ≡ is_code_digit byte }
 {

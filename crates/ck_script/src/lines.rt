@@ -82,13 +82,13 @@ fn words_meaning(alloc: Global, mut words: Split) -> Result<Line, LineError>
 }
 
 /// Whether a byte is a control character other than a tab and those that end lines.
-fn is_no_text(byte: u8) -> bool {
+fn is_bad_control(byte: u8) -> bool {
     byte.is_ascii_control() && !matches!(byte, b'\t' | b'\n' | b'\r')
 }
 
 /// What is wrong with the bytes of a bad line, whatever its words mean, if anything is.
 fn layout_error(bytes: &[u8]) -> Option<BadLine> {
-    if bytes.iter().any(|byte| is_no_text(*byte)) {
+    if bytes.iter().any(|byte| is_bad_control(*byte)) {
         return Some(BadLine::NotText);
     }
     if bytes.starts_with(b"\xef\xbb\xbf") {

@@ -33,7 +33,7 @@ impl Ending {
     }
 }
 
-/// Ends the object of the place, where the ending ends it.
+/// Removes the object of the place, where the ending is about it.
 fn end_object(objects: &mut Slab<StoredObject>, place: Place, ending: Ending)
     ensures left { LeavesOthers (is_ended_by ending) objects.old objects.new }
     ensures ended { HasNone (is_ended_by ending) objects.new place }
@@ -48,7 +48,7 @@ fn end_object(objects: &mut Slab<StoredObject>, place: Place, ending: Ending)
     }
 }
 
-/// Ends those objects of these places that the ending ends.
+/// Removes those objects of these places that the ending is about.
 fn end_objects(objects: &mut Slab<StoredObject>, places: &[Place], ending: Ending)
     ensures left { LeavesOthers (is_ended_by ending) objects.old objects.new }
     ensures ended { (p : Place) → Contains places.now p
@@ -59,7 +59,7 @@ fn end_objects(objects: &mut Slab<StoredObject>, places: &[Place], ending: Endin
     }
 }
 
-/// Ends the objects that the ending ends, in the lists that it concerns.
+/// Removes the objects that the ending is about, by the lists that it concerns.
 pub(crate) fn end_listed(objects: &mut Slab<StoredObject>, lists: &[SessionList], ending: Ending)
     ensures left { LeavesOthers (is_ended_by ending) objects.old objects.new }
     ensures ended { (session : ℕ) (private : Bool) (p : Place)

@@ -31,11 +31,7 @@ pub(crate) fn object_at(objects: &Slab<StoredObject>, place: Place) -> Option<&S
     ensures { option_copied result ≡ object_at objects.now place }
 {
     let object = objects.get(place.key)?;
-    if object.number() == place.number {
-        Some(object)
-    } else {
-        None
-    }
+    (object.number() == place.number).then_some(object)
 }
 
 /// Whether the object of the place hasn't ended.
@@ -57,11 +53,7 @@ fn guess_position(index: &[Place], number: u64) -> Option<usize>
 {
     let first = index.first()?;
     let guess = number.checked_sub(first.number)? as usize;
-    if guess < index.len() && index[guess].number == number {
-        Some(guess)
-    } else {
-        None
-    }
+    (guess < index.len() && index[guess].number == number).then_some(guess)
 }
 
 /// The position of a number in an index whose numbers are ascending. A guess comes first, since a
@@ -97,6 +89,7 @@ pub(crate) fn key_of(objects: &Slab<StoredObject>, index: &[Place], number: u64)
         return Some(guess.key);
     }
     let place = index[position_of(index, number)?];
+    // No `then_some`, so that the proof has the two cases apart.
     if is_there(objects, place) {
         Some(place.key)
     } else {
@@ -133,11 +126,7 @@ fn match_at(
         return None;
     }
     let object = object_at(objects, place)?;
-    if object.is_match(view, template) {
-        Some(object.number())
-    } else {
-        None
-    }
+    object.is_match(view, template).then_some(object.number())
 }
 
 /// The numbers of the objects that are visible and match the template. Most searches find few

@@ -41,11 +41,8 @@ impl StoredObject {
         requires { number < 2 ^ 32 }
         ensures { result ≡ object_row number session attributes }
     {
-        let session = if attributes.is_set(Attribute::Token) {
-            None
-        } else {
-            Some(session)
-        };
+        let is_kept = attributes.is_set(Attribute::Token);
+        let session = (!is_kept).then_some(session);
         StoredObject {
             number,
             session,
@@ -96,11 +93,8 @@ impl StoredObject {
         requires { view.logins < 2 ^ 31 }
         ensures { result ≡ visible_handle view self.now }
     {
-        if self.is_visible(view) {
-            Some(view.handle(&self.attributes, self.number))
-        } else {
-            None
-        }
+        self.is_visible(view)
+            .then_some(view.handle(&self.attributes, self.number))
     }
 
     /// Whether the object is visible and matches the template.

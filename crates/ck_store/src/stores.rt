@@ -128,6 +128,7 @@ impl Store {
     {
         let number = number_of_handle(handle);
         let object = find_numbered(&self.objects, &self.index, number)?;
+        // No `then_some`, so that the proof has the two cases apart.
         if object.handle(view) == Some(handle) {
             Some((number, object.attributes()))
         } else {

@@ -24,8 +24,8 @@ mod session_calls;
 mod works;
 
 /// A token with its sessions, objects and operations, wholly in memory. Contracts see its limits,
-/// the history of its journal and for how many more entries the journal has room; that its parts
-/// are what the history says, and that the history is legal, is true of every token.
+/// the history of its journal, and for how many more entries the journal has room. Of every token
+/// the parts are what the history says, and the history is legal.
 #[derive(Drop)]
 pub struct Token {
     limits: Limits,

@@ -22,6 +22,7 @@ use ck_types::{Bytes, Mechanism, NoMemory, Rv, RvError, digest_of, error_if, mac
 use std::alloc::Global;
 
 /// The change of a reply to a message. Where `ends` is false the operation stays.
+// A function, since the proof of `verify` names what is known after it.
 fn finish_operation(kind: OperationKind, session: u64, ends: bool) -> Change
     ensures { result ≡ change.FinishOperation kind session ends }
 {

@@ -58,6 +58,7 @@ impl Token {
         let work = work?;
         let (kind, session) = call.operation()?;
         let current = self.parts.operations.get(kind, session)?;
+        // No `then_some`, so that the proof has the two cases apart.
         if current.last_change() < work.entries {
             Some(&work.running)
         } else {

@@ -4,7 +4,7 @@ use Rattle.clap.specs.Words.{App, Text, fault_of, first_of, found_of, is_simple}
 use Rattle.clap.specs.Words.{is_simple_and_free, kind_of, matches_of, IsAmong}
 use Rattle.clap.proofs.WalkLemmas.{first_value-rows}
 use Rattle.ck_program.specs.Options.{AreRefused, IsChosenBy}
-use Rattle.ck_program.specs.declared.options.ArgumentFault.{ArgumentFault}
+use Rattle.ck_program.specs.declared.faults.ArgumentFault.{ArgumentFault}
 use Rattle.ck_program.specs.declared.options.Options.{Options}
 use Rattle.ck_program.proofs.arguments.options_of.Goals as goal
 

@@ -9,7 +9,7 @@ loop-call-preserved c =
     let index = c.loop-call.call-index in
     let call = c.call-item.result in
     let within : index < length calls = omega arith in
-    c.in_ok-add_if_by.ensures
+    c.in_ok-add_own_call.ensures
     ∙ ap (λ own. own ++ calls_by c.args.number (call ∷ [])) c.loop-call.invariant
     ∙ ap (λ x. calls_by c.args.number (take index calls) ++ calls_by c.args.number (x ∷ []))
     c.call-item.is

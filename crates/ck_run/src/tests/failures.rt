@@ -1,5 +1,5 @@
 //! Readers and writers that fail, and readers that do not end in time.
-use crate::devices::{Devices, End, check_play};
+use crate::tests::devices::{Devices, End, check_play};
 use std::test::Fail;
 
 /// Three lines of 16 bytes.

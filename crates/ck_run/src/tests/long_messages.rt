@@ -1,8 +1,9 @@
 //! Which messages are taken in before their calls, and that the calls then don't take them in once
 //! more. No contract says so, since no reply depends on it.
 use ck_token::{
-    Attribute, Bytes, Call, JournaledToken, Limits, Mechanism, NoMemory, Pin, READ_WRITE, SHA256,
-    SHA256_HMAC, Template, Token,
+    Attribute, Bytes, Call, JournaledToken, Limits, Mechanism, NoMemory, Pin, READ_WRITE, SHA224,
+    SHA224_HMAC, SHA256, SHA256_HMAC, SHA384, SHA384_HMAC, SHA384_HMAC_GENERAL, SHA512,
+    SHA512_HMAC, Template, Token,
 };
 use std::alloc::Global;
 use std::process::Abort;
@@ -15,8 +16,37 @@ const LONG: usize = 4_096;
 /// The most bytes that a call brings.
 const LONGEST: usize = 1 << 20;
 
-/// The length of the digests and of the signatures.
+/// The length of the digests and of the signatures by SHA-256.
 const ROOM: Option<u64> = Some(32);
+
+/// The length of the longest digests and signatures.
+const MOST_ROOM: Option<u64> = Some(64);
+
+/// The types of the mechanisms of a digest, and of a signature and its verification.
+#[derive(Clone, Copy)]
+struct Mechanisms {
+    digest: u64,
+    hmac: u64,
+}
+
+const BY_SHA256: Mechanisms = Mechanisms {
+    digest: SHA256,
+    hmac: SHA256_HMAC,
+};
+
+#[rattlefmt::skip]
+const OTHER_MECHANISMS: [Mechanisms; 4] = [
+    Mechanisms { digest: SHA224, hmac: SHA224_HMAC },
+    Mechanisms { digest: SHA384, hmac: SHA384_HMAC },
+    Mechanisms { digest: SHA512, hmac: SHA512_HMAC },
+    Mechanisms { digest: SHA224, hmac: SHA384_HMAC_GENERAL },
+];
+
+/// The parameter of a general HMAC: the length of its signatures.
+const TAG_LENGTH: u64 = 8;
+
+/// How many calls a token has answered before the others.
+const EARLIER_CALLS: u32 = 20_000;
 
 /// The length of messages, the room for what they give, and how many of three single-part messages
 /// and of three pieces are taken in.
@@ -34,6 +64,8 @@ const WITHOUT_PIECES: [Row; 6] = [
 ];
 
 const AFTER_PIECES: [Row; 1] = [(LONG, ROOM, (0, 3))];
+
+const BY_OTHER_MECHANISMS: [Row; 2] = [(LONG, MOST_ROOM, (3, 3)), (LONG, Some(7), (1, 3))];
 
 /// How many times the call is timed.
 const TRIES: u32 = 5;
@@ -107,37 +139,61 @@ fn count_taken_in(
     Ok((count_in(token, &single_part), count_in(token, &pieces)))
 }
 
-/// A token with a key that anybody may use, and with session 1.
-fn token_with_key(alloc: Global) -> Result<(Token, u64), Fail> {
-    let mut token = Token::new(alloc, Limits::largest());
-    let session = 1;
-    let pin = Pin::of(b"1234");
+fn new_token(alloc: Global) -> Token {
+    Token::new(alloc, Limits::largest())
+}
+
+/// Opens session 1 of a new token, creates a key that anybody may use, and makes many calls. Gives
+/// the key's handle.
+fn create_key(alloc: Global, token: &mut Token) -> Result<u64, Fail> {
+    let (session, pin) = (1, Pin::of(b"1234"));
     token.try_call(alloc, 1, Call::InitToken { pin })?;
     token.try_call(alloc, 1, Call::OpenSession { flags: READ_WRITE })?;
     let template = Template::secret_key(alloc, b"Jefe")?.flag(Attribute::Private, false)?;
     let created = token.try_call(alloc, 1, Call::CreateObject { session, template })?;
-    let key = created.handle().ok_or("no key")?;
-    Ok((token, key))
+    for _ in 0..EARLIER_CALLS {
+        token.try_call(alloc, 1, Call::GetTokenInfo)?;
+    }
+    Ok(created.handle().ok_or("no key")?)
 }
 
-/// Begins a digest, a signature and a verification in session 1.
-fn begin_all(alloc: Global, token: &mut Token, key: u64) -> Result<(), Fail> {
+/// The mechanism of this type, with its parameter where it has one.
+fn mechanism_of(alloc: Global, kind: u64) -> Result<Mechanism, NoMemory> {
+    match kind {
+        SHA384_HMAC_GENERAL => Mechanism::with_length(alloc, kind, TAG_LENGTH),
+        _ => Ok(Mechanism::new(alloc, kind)),
+    }
+}
+
+/// The calls that begin a digest, a signature and a verification in session 1.
+fn beginnings(alloc: Global, key: u64, mechanisms: Mechanisms) -> Result<Vec<Call>, NoMemory> {
     let session = 1;
-    let mechanism = Mechanism::new(alloc, SHA256);
-    token.try_call(alloc, 1, Call::DigestInit { session, mechanism })?;
-    let mechanism = Mechanism::new(alloc, SHA256_HMAC);
-    token.try_call(alloc, 1, Call::sign_init(session, mechanism, key))?;
-    let mechanism = Mechanism::new(alloc, SHA256_HMAC);
-    token.try_call(
-        alloc,
-        1,
-        Call::VerifyInit {
-            session,
-            mechanism,
-            key,
-        },
-    )?;
+    let mut calls = Vec::new(alloc);
+    let mechanism = mechanism_of(alloc, mechanisms.digest)?;
+    calls.push(Call::DigestInit { session, mechanism })?;
+    let mechanism = mechanism_of(alloc, mechanisms.hmac)?;
+    calls.push(Call::sign_init(session, mechanism, key))?;
+    let mechanism = mechanism_of(alloc, mechanisms.hmac)?;
+    calls.push(Call::VerifyInit {
+        session,
+        mechanism,
+        key,
+    })?;
+    Ok(calls)
+}
+
+/// Makes these calls, each of which is answered CKR_OK.
+fn make_calls(alloc: Global, token: &mut Token, calls: Vec<Call>) -> Result<(), Fail> {
+    for call in calls {
+        token.try_call(alloc, 1, call)?;
+    }
     Ok(())
+}
+
+/// Begins a digest, a signature and a verification in session 1 of a new token with a key.
+fn begin_all(alloc: Global, token: &mut Token, mechanisms: Mechanisms) -> Result<(), Fail> {
+    let key = create_key(alloc, token)?;
+    make_calls(alloc, token, beginnings(alloc, key, mechanisms)?)
 }
 
 /// Fails where other messages than those of the rows are taken in.
@@ -151,17 +207,36 @@ fn check_rows(rt: &impl Abort, alloc: Global, token: &Token, rows: &[Row]) -> Re
 
 /// Long messages are taken in before their calls, but not before an operation is active, where they
 /// are too long, where only a length is answered, and after a piece where they are single-part.
+fn check_messages(rt: &impl Abort, alloc: Global, token: &mut Token) -> Result<(), Fail> {
+    check_rows(rt, alloc, token, &WITHOUT_OPERATIONS)?;
+    begin_all(alloc, token, BY_SHA256)?;
+    check_rows(rt, alloc, token, &WITHOUT_PIECES)?;
+    make_calls(alloc, token, piece_calls(alloc, 1)?)?;
+    check_rows(rt, alloc, token, &AFTER_PIECES)
+}
+
 #[test]
 fn messages_are_taken_in_before_their_calls(rt: HostRuntime) -> Result<(), Fail> {
-    let alloc = rt.alloc();
-    let (mut token, key) = token_with_key(alloc)?;
-    check_rows(&rt, alloc, &token, &WITHOUT_OPERATIONS)?;
-    begin_all(alloc, &mut token, key)?;
-    check_rows(&rt, alloc, &token, &WITHOUT_PIECES)?;
-    for call in piece_calls(alloc, 1)? {
-        token.try_call(alloc, 1, call)?;
+    check_messages(&rt, rt.alloc(), &mut new_token(rt.alloc()))
+}
+
+/// Long messages are taken in with these mechanisms, too.
+fn check_mechanisms(
+    rt: &impl Abort,
+    alloc: Global,
+    token: &mut Token,
+    mechanisms: Mechanisms,
+) -> Result<(), Fail> {
+    begin_all(alloc, token, mechanisms)?;
+    check_rows(rt, alloc, token, &BY_OTHER_MECHANISMS)
+}
+
+#[test]
+fn messages_are_taken_in_with_each_mechanism(rt: HostRuntime) -> Result<(), Fail> {
+    for mechanisms in OTHER_MECHANISMS {
+        check_mechanisms(&rt, rt.alloc(), &mut new_token(rt.alloc()), mechanisms)?;
     }
-    check_rows(&rt, alloc, &token, &AFTER_PIECES)
+    Ok(())
 }
 
 /// What taking in a message took of the processor, and what its call took afterwards.
@@ -200,29 +275,33 @@ fn times_of<R: CpuClock>(
     })
 }
 
-/// The calls of session 1 with the longest messages: single-part ones, or pieces.
-fn longest_calls(alloc: Global, are_single_part: bool) -> Result<Vec<Call>, NoMemory> {
-    if are_single_part {
-        single_part_calls(alloc, LONGEST, ROOM)
-    } else {
-        piece_calls(alloc, LONGEST)
+/// How calls bring their messages.
+#[derive(Clone, Copy)]
+enum Form {
+    SinglePart,
+    Pieces,
+}
+
+/// The calls of session 1 with the longest messages.
+fn longest_calls(alloc: Global, form: Form) -> Result<Vec<Call>, NoMemory> {
+    match form {
+        Form::SinglePart => single_part_calls(alloc, LONGEST, MOST_ROOM),
+        Form::Pieces => piece_calls(alloc, LONGEST),
     }
 }
 
-/// Makes the calls with the longest messages, and lowers to their times the least ones so far.
+/// Makes the calls with the longest messages on a new token, and lowers to their times the least
+/// ones so far.
 fn lower_times<R: CpuClock>(
     rt: &R,
     alloc: Global,
-    are_single_part: bool,
+    token: &mut Token,
+    (form, mechanisms): (Form, Mechanisms),
     least: &mut [Times],
 ) -> Result<(), Fail> {
-    let (mut token, key) = token_with_key(alloc)?;
-    begin_all(alloc, &mut token, key)?;
-    for (call, times) in longest_calls(alloc, are_single_part)?
-        .into_iter()
-        .zip(least)
-    {
-        *times = times.least(times_of(rt, alloc, &mut token, call)?);
+    begin_all(alloc, token, mechanisms)?;
+    for (call, times) in longest_calls(alloc, form)?.into_iter().zip(least) {
+        *times = times.least(times_of(rt, alloc, token, call)?);
     }
     Ok(())
 }
@@ -231,7 +310,7 @@ fn lower_times<R: CpuClock>(
 fn least_times<R: CpuClock>(
     rt: &R,
     alloc: Global,
-    are_single_part: bool,
+    calls: (Form, Mechanisms),
 ) -> Result<[Times; 3], Fail> {
     let longest = Times {
         before: Duration::MAX,
@@ -239,7 +318,7 @@ fn least_times<R: CpuClock>(
     };
     let mut least = [longest; 3];
     for _ in 0..TRIES {
-        lower_times(rt, alloc, are_single_part, &mut least)?;
+        lower_times(rt, alloc, &mut new_token(alloc), calls, &mut least)?;
     }
     Ok(least)
 }
@@ -248,9 +327,9 @@ fn least_times<R: CpuClock>(
 fn check_times<R: Abort + CpuClock>(
     rt: &R,
     alloc: Global,
-    are_single_part: bool,
+    calls: (Form, Mechanisms),
 ) -> Result<(), Fail> {
-    for Times { before, in_call } in least_times(rt, alloc, are_single_part)? {
+    for Times { before, in_call } in least_times(rt, alloc, calls)? {
         assert!(rt; in_call.saturating_mul(5) < before);
     }
     Ok(())
@@ -258,12 +337,20 @@ fn check_times<R: Abort + CpuClock>(
 
 #[test]
 fn single_part_messages_are_taken_in_once(rt: HostRuntime) -> Result<(), Fail> {
-    check_times(&rt, rt.alloc(), true)
+    check_times(&rt, rt.alloc(), (Form::SinglePart, BY_SHA256))
 }
 
 #[test]
 fn pieces_are_taken_in_once(rt: HostRuntime) -> Result<(), Fail> {
-    check_times(&rt, rt.alloc(), false)
+    check_times(&rt, rt.alloc(), (Form::Pieces, BY_SHA256))
+}
+
+#[test]
+fn messages_are_taken_in_once_with_each_mechanism(rt: HostRuntime) -> Result<(), Fail> {
+    for mechanisms in OTHER_MECHANISMS {
+        check_times(&rt, rt.alloc(), (Form::SinglePart, mechanisms))?;
+    }
+    Ok(())
 }
 
 /// What C_Digest of a longest message with this room takes of the processor.
@@ -287,17 +374,26 @@ fn digest_time<R: CpuClock>(
     Ok(rt.process_cpu_time()?.saturating_sub(start))
 }
 
+/// What C_Digest takes on a new token where it tells a length, and where it gives the digest.
+fn digest_times<R: CpuClock>(
+    rt: &R,
+    alloc: Global,
+    token: &mut Token,
+) -> Result<(Duration, Duration), Fail> {
+    begin_all(alloc, token, BY_SHA256)?;
+    let told = digest_time(rt, alloc, token, None)?;
+    Ok((told, digest_time(rt, alloc, token, ROOM)?))
+}
+
 /// The length of a digest is told without taking in the message.
 #[test]
 fn a_length_is_told_without_the_message(rt: HostRuntime) -> Result<(), Fail> {
-    let alloc = rt.alloc();
-    let (mut told, mut made) = (Duration::MAX, Duration::MAX);
+    let (mut least_told, mut least_made) = (Duration::MAX, Duration::MAX);
     for _ in 0..TRIES {
-        let (mut token, key) = token_with_key(alloc)?;
-        begin_all(alloc, &mut token, key)?;
-        told = told.min(digest_time(&rt, alloc, &mut token, None)?);
-        made = made.min(digest_time(&rt, alloc, &mut token, ROOM)?);
+        let (told, made) = digest_times(&rt, rt.alloc(), &mut new_token(rt.alloc()))?;
+        least_told = least_told.min(told);
+        least_made = least_made.min(made);
     }
-    assert!(&rt; told.saturating_mul(5) < made);
+    assert!(&rt; least_told.saturating_mul(5) < least_made);
     Ok(())
 }

@@ -3,37 +3,23 @@
 //! proved too.
 use ck_audit::{Verdict, audit, audit_token};
 use ck_token::{
-    Attribute, Call, Class, Limits, NoMemory, Pin, READ_WRITE, Sequence, Template, Token, UserType,
-    run,
+    Attribute, Call, Class, Journal, Limits, NoMemory, Pin, READ_WRITE, Sequence, Template, Token,
+    UserType, run,
 };
 use std::alloc::Global;
+use std::process::Abort;
 use std::test::Fail;
 
-/// How many objects a cut keeps.
-const KEPT: u64 = 5_000;
+fn new_token(alloc: Global) -> Token {
+    Token::new(alloc, Limits::largest())
+}
 
-/// How many entries a journal has that is cut.
-const CUT: u64 = 20_000;
-
-/// How many sessions are opened and closed, one after the other.
-const VISITS: u32 = 2_000;
-
-/// How many calls a run makes.
-const CALLS: u64 = 10_000;
-
-/// For how many entries room is reserved.
-const RESERVED: u64 = 100_000;
-
-/// How many handles a search gives in one call.
-const FOUND: u64 = 20_000;
-
-/// A new token with session 1.
-fn token_with_session(alloc: Global) -> Result<Token, Fail> {
-    let mut token = Token::new(alloc, Limits::largest());
+/// Initializes a new token, and opens session 1.
+fn open_session(alloc: Global, token: &mut Token) -> Result<(), Fail> {
     let pin = Pin::of(b"1234");
     token.try_call(alloc, 1, Call::InitToken { pin })?;
     token.try_call(alloc, 1, Call::OpenSession { flags: READ_WRITE })?;
-    Ok(token)
+    Ok(())
 }
 
 /// Creates a token object in a session, and gives its handle.
@@ -45,26 +31,33 @@ fn create_object(alloc: Global, token: &mut Token, session: u64) -> Result<u64, 
     Ok(created.handle().ok_or("no object")?)
 }
 
-/// A new token with session 1 and with this many token objects.
-fn token_with_objects(alloc: Global, count: u64) -> Result<Token, Fail> {
-    let mut token = token_with_session(alloc)?;
+/// Opens session 1 of a new token, and creates this many token objects in it.
+fn create_objects(alloc: Global, token: &mut Token, count: u64) -> Result<(), Fail> {
+    open_session(alloc, token)?;
     for _ in 0..count {
-        create_object(alloc, &mut token, 1)?;
+        create_object(alloc, token, 1)?;
     }
-    Ok(token)
+    Ok(())
+}
+
+/// How many objects a cut keeps.
+const KEPT: u64 = 70_000;
+
+/// Cuts the journal of a new token with many objects. It goes on from there.
+fn check_kept_objects(rt: &impl Abort, alloc: Global, token: &mut Token) -> Result<(), Fail> {
+    create_objects(alloc, token, KEPT)?;
+    token.try_call(alloc, 1, Call::CloseSession { session: 1 })?;
+    token.cut(alloc)?;
+    assert_eq!(rt; token.journal().len(), 0);
+    token.try_call(alloc, 1, Call::OpenSession { flags: READ_WRITE })?;
+    assert_eq!(rt; create_object(alloc, token, 2)?, KEPT + 1);
+    assert_eq!(rt; audit_token(alloc, token)?, Verdict::Legal);
+    Ok(())
 }
 
 #[test]
 fn a_cut_may_keep_many_objects(rt: HostRuntime) -> Result<(), Fail> {
-    let alloc = rt.alloc();
-    let mut token = token_with_objects(alloc, KEPT)?;
-    token.try_call(alloc, 1, Call::CloseSession { session: 1 })?;
-    token.cut(alloc)?;
-    assert_eq!(&rt; token.journal().len(), 0);
-    token.try_call(alloc, 1, Call::OpenSession { flags: READ_WRITE })?;
-    assert_eq!(&rt; create_object(alloc, &mut token, 2)?, KEPT + 1);
-    assert_eq!(&rt; audit_token(alloc, &token)?, Verdict::Legal);
-    Ok(())
+    check_kept_objects(&rt, rt.alloc(), &mut new_token(rt.alloc()))
 }
 
 /// This many calls of C_GetTokenInfo.
@@ -76,30 +69,36 @@ fn short_calls(alloc: Global, count: u64) -> Result<Vec<(u32, Call)>, NoMemory> 
     Ok(calls)
 }
 
-/// The first calls and the last one are those of the session.
+/// How many entries a journal has that is cut.
+const CUT: u64 = 100_000;
+
+/// Cuts a long journal of a new token, and gives it. Its first calls and its last one are those of
+/// session 1.
+fn cut_long_journal(alloc: Global, token: &mut Token) -> Result<Journal, Fail> {
+    open_session(alloc, token)?;
+    run(token, alloc, short_calls(alloc, CUT - 3)?)?;
+    token.try_call(alloc, 1, Call::CloseSession { session: 1 })?;
+    Ok(token.cut(alloc)?)
+}
+
 #[test]
 fn a_long_journal_may_be_cut(rt: HostRuntime) -> Result<(), Fail> {
-    let alloc = rt.alloc();
-    let mut token = token_with_session(alloc)?;
-    run(&mut token, alloc, short_calls(alloc, CUT - 3)?)?;
-    token.try_call(alloc, 1, Call::CloseSession { session: 1 })?;
-    let journal = token.cut(alloc)?;
+    let journal = cut_long_journal(rt.alloc(), &mut new_token(rt.alloc()))?;
     assert_eq!(&rt; journal.len(), CUT);
-    assert_eq!(&rt; token.journal().len(), 0);
-    let verdict = audit::<Token>(alloc, &journal, token.limits())?;
+    let verdict = audit::<Token>(rt.alloc(), &journal, Limits::largest())?;
     assert_eq!(&rt; verdict, Verdict::Legal);
     Ok(())
 }
 
-/// A new token whose user has a PIN.
-fn token_with_user(alloc: Global) -> Result<Token, Fail> {
-    let mut token = token_with_session(alloc)?;
+/// Gives the user of a new token a PIN.
+fn init_user(alloc: Global, token: &mut Token) -> Result<(), Fail> {
+    open_session(alloc, token)?;
     let so = Call::login(1, UserType::So, Pin::of(b"1234"));
     token.try_call(alloc, 1, so)?;
     let pin = Pin::of(b"5678");
     token.try_call(alloc, 1, Call::InitPin { session: 1, pin })?;
     token.try_call(alloc, 1, Call::CloseSession { session: 1 })?;
-    Ok(token)
+    Ok(())
 }
 
 /// Opens a session, logs the user in, and closes the session, which logs out.
@@ -112,32 +111,39 @@ fn visit(alloc: Global, token: &mut Token) -> Result<(), Fail> {
     Ok(())
 }
 
-#[test]
-fn a_token_goes_on_after_many_sessions(rt: HostRuntime) -> Result<(), Fail> {
-    let alloc = rt.alloc();
-    let mut token = token_with_user(alloc)?;
+/// How many sessions are opened and closed, one after the other.
+const VISITS: u32 = 2_000;
+
+/// Visits a new token many times, and once more after a cut.
+fn check_visits(rt: &impl Abort, alloc: Global, token: &mut Token) -> Result<(), Fail> {
+    init_user(alloc, token)?;
     for _ in 0..VISITS {
-        visit(alloc, &mut token)?;
+        visit(alloc, token)?;
     }
     token.cut(alloc)?;
-    visit(alloc, &mut token)?;
-    assert_eq!(&rt; token.journal().len(), 3);
-    assert_eq!(&rt; audit_token(alloc, &token)?, Verdict::Legal);
+    visit(alloc, token)?;
+    assert_eq!(rt; token.journal().len(), 3);
+    assert_eq!(rt; audit_token(alloc, token)?, Verdict::Legal);
     Ok(())
+}
+
+#[test]
+fn a_token_goes_on_after_many_sessions(rt: HostRuntime) -> Result<(), Fail> {
+    check_visits(&rt, rt.alloc(), &mut new_token(rt.alloc()))
 }
 
 /// Ten flags that a template of a key may give.
 const FLAGS: [Attribute; 10] = [
-    Attribute::Token,
+    Attribute::Decrypt,
+    Attribute::Derive,
+    Attribute::Encrypt,
     Attribute::Private,
     Attribute::Sensitive,
-    Attribute::Encrypt,
-    Attribute::Decrypt,
-    Attribute::Wrap,
-    Attribute::Unwrap,
     Attribute::Sign,
+    Attribute::Token,
+    Attribute::Unwrap,
     Attribute::Verify,
-    Attribute::Derive,
+    Attribute::Wrap,
 ];
 
 /// A template with the flags and with a value of 4,096 bytes.
@@ -161,36 +167,61 @@ fn a_template_is_made_of_many_attributes(rt: HostRuntime) -> Result<(), Fail> {
     Ok(())
 }
 
+/// How many calls a run makes.
+const CALLS: u64 = 10_000;
+
 #[test]
 fn a_run_may_be_long(rt: HostRuntime) -> Result<(), Fail> {
-    let alloc = rt.alloc();
-    let mut token = Token::new(alloc, Limits::largest());
-    run(&mut token, alloc, short_calls(alloc, CALLS)?)?;
-    assert_eq!(&rt; token.journal().len(), CALLS);
+    let mut token = new_token(rt.alloc());
+    run(&mut token, rt.alloc(), short_calls(rt.alloc(), CALLS)?)?;
+    assert_eq!(rt; token.journal().len(), CALLS);
     Ok(())
 }
 
+/// For how many entries room is reserved.
+const RESERVED: u64 = 100_000;
+
 #[test]
 fn room_is_made_for_many_entries(rt: HostRuntime) -> Result<(), Fail> {
-    let mut token = Token::new(rt.alloc(), Limits::largest());
+    let mut token = new_token(rt.alloc());
     token.reserve(RESERVED)?;
     assert!(rt; token.spare() >= RESERVED);
     Ok(())
 }
 
-/// The handles of this many objects at most, by one call.
-fn find_objects(alloc: Global, token: &mut Token, max: u64) -> Result<Sequence<u64>, Fail> {
+/// How many handles a search gives in one call.
+const FOUND: u64 = 70_000;
+
+/// The handles of the objects of a new token with many, by one call.
+fn find_objects(alloc: Global, token: &mut Token) -> Result<Sequence<u64>, Fail> {
+    create_objects(alloc, token, FOUND)?;
     let (session, template) = (1, Template::new(alloc));
     token.try_call(alloc, 1, Call::FindObjectsInit { session, template })?;
+    let max = FOUND;
     let found = token.try_call(alloc, 1, Call::FindObjects { session, max })?;
     Ok(found.handles().ok_or("no handles")?)
 }
 
 #[test]
 fn many_handles_are_found_at_once(rt: HostRuntime) -> Result<(), Fail> {
-    let mut token = token_with_objects(rt.alloc(), FOUND)?;
-    let handles = find_objects(rt.alloc(), &mut token, FOUND)?;
+    let handles = find_objects(rt.alloc(), &mut new_token(rt.alloc()))?;
     assert_eq!(rt; handles.as_slice().len() as u64, FOUND);
     assert_eq!(rt; handles.as_slice().last().copied(), Some(FOUND));
+    Ok(())
+}
+
+/// Past the types of the attributes that the standard names and the token knows.
+const PAST_TYPES: u64 = 0x180;
+
+#[test]
+fn a_template_may_give_each_attribute(rt: HostRuntime) -> Result<(), Fail> {
+    let mut template = Template::new(rt.alloc());
+    for attribute in (0..PAST_TYPES).filter_map(Attribute::of) {
+        template = template
+            .flag(attribute, true)?
+            .number(attribute, 1)?
+            .bytes(attribute, b"a")?;
+    }
+    assert_eq!(rt; template.items.as_slice().len(), 3 * 26);
     Ok(())
 }

@@ -1,5 +1,5 @@
 //! A script that is cut after each of its bytes. What is left of a line may be another call.
-use crate::devices::{Devices, End, check_play};
+use crate::tests::devices::{Devices, End, check_play};
 use std::alloc::Global;
 use std::process::Abort;
 use std::test::Fail;

@@ -1,11 +1,14 @@
 //! Scripts, the replies to them, and how playing ends.
-use crate::devices::{Devices, End, check_script};
+use crate::tests::devices::{Devices, End, check_script};
 use ck_plays::{PlayFault, play_with};
 use ck_script::{BadLine, LONGEST_LINE};
 use ck_token::{Limits, Token};
 use std::alloc::Global;
 use std::process::Abort;
 use std::test::Fail;
+
+/// How many reads of 65,536 bytes give a longest line.
+const LONGEST_LINE_READS: u64 = 64;
 
 /// A script, the replies to it, and how playing ends.
 type ScriptRow = (&'static str, &'static str, End);
@@ -91,9 +94,6 @@ fn check_messages(rt: &impl Abort, alloc: Global, rows: &[(usize, &str)]) -> Res
 fn long_messages(rt: HostRuntime) -> Result<(), Fail> {
     check_messages(&rt, rt.alloc(), &MESSAGES)
 }
-
-/// How many reads of 65,536 bytes give a longest line.
-const LONGEST_LINE_READS: u64 = 64;
 
 #[test]
 fn reads_no_further_than_a_line_may_go(rt: HostRuntime) -> Result<(), Fail> {

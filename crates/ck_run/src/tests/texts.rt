@@ -133,6 +133,16 @@ fn lines_with_control_characters_are_no_text(rt: HostRuntime) {
     }
 }
 
+/// Each control character except a tab, a line feed and a carriage return, behind a caller.
+#[test]
+fn no_control_character_stands_in_text(rt: HostRuntime) {
+    for byte in (0..=0x7f).filter(u8::is_ascii_control) {
+        let line = Line::parse(rt.alloc(), &[b'1', b' ', byte]);
+        let is_bad = matches!(line, Err(LineError::Bad(BadLine::NotText)));
+        assert!(&rt; is_bad != matches!(byte, b'\t' | b'\n' | b'\r'), "{byte}");
+    }
+}
+
 /// Why these arguments are bad.
 fn reason_of(alloc: Global, arguments: &[&str]) -> Result<BadArguments, Fail> {
     let mut owned = Vec::new(alloc);

@@ -2,7 +2,7 @@
 use anyhow::Context;
 use ck_token::{
     Attribute, Bytes, Call, Limits, Mechanism, Pin, READ_WRITE, Rv, SHA256_HMAC,
-    SHA256_HMAC_GENERAL, Template, Token, UserType,
+    SHA512_HMAC_GENERAL, Template, Token, UserType,
 };
 use std::alloc::Global;
 use std::test::Fail;
@@ -35,8 +35,10 @@ const TAG: [u8; 32] = [
 /// The parameter of a general HMAC is the length of its signatures.
 #[test]
 fn a_mechanism_has_its_length(rt: HostRuntime) -> Result<(), Fail> {
-    let mechanism = Mechanism::with_length(rt.alloc(), SHA256_HMAC_GENERAL, 16)?;
-    assert!(rt; mechanism.tag_length() == Some(16));
+    for length in 1..=64 {
+        let mechanism = Mechanism::with_length(rt.alloc(), SHA512_HMAC_GENERAL, length)?;
+        assert!(&rt; mechanism.tag_length() == Some(length));
+    }
     Ok(())
 }
 

@@ -1,5 +1,5 @@
 //! Lines of the greatest length and longer, lists of many items, and long values.
-use crate::devices::{Devices, End, check_play, check_script};
+use crate::tests::devices::{Devices, End, check_play, check_script};
 use ck_script::LONGEST_LINE;
 use std::alloc::Global;
 use std::process::Abort;
@@ -31,7 +31,7 @@ fn a_comment_may_be_as_long_as_a_line(rt: HostRuntime) -> Result<(), Fail> {
 }
 
 /// How many times a row gives what stands in parentheses.
-const MANY: usize = 10_000;
+const MANY: usize = 30_000;
 
 /// A call and its reply. In both, what stands in parentheses is given many times.
 type CallAndReply = (&'static str, &'static str);
@@ -70,17 +70,32 @@ const QUERIES: [CallAndReply; 4] = [
     ("1 GetAttributeValue 1 1 3:8(,3:?),103:8", "12 =6162(,:2),!"),
 ];
 
-/// A value of 100,000 bytes, which are ten bytes many times.
+/// A value of 300,000 bytes, which are ten bytes many times.
 #[rattlefmt::skip]
 const VALUES: [CallAndReply; 8] = [
     ("1 CreateObject 1 0=0000000000000000,11=(6162636465666768696a)", "0 1"),
-    ("1 GetAttributeValue 1 1 11:?", "0 :100000"),
-    ("1 GetAttributeValue 1 1 11:99999", "150 !"),
-    ("1 GetAttributeValue 1 1 11:100000", "0 =(6162636465666768696a)"),
+    ("1 GetAttributeValue 1 1 11:?", "0 :300000"),
+    ("1 GetAttributeValue 1 1 11:299999", "150 !"),
+    ("1 GetAttributeValue 1 1 11:300000", "0 =(6162636465666768696a)"),
     ("1 FindObjectsInit 1 11=(6162636465666768696a)", "0"),
     ("1 FindObjects 1 9", "0 1"),
     ("1 SetAttributeValue 1 1 11=(6a696867666564636261)", "0"),
-    ("1 GetAttributeValue 1 1 11:100000", "0 =(6a696867666564636261)"),
+    ("1 GetAttributeValue 1 1 11:300000", "0 =(6a696867666564636261)"),
+];
+
+/// Texts of 300,000 bytes: labels, applications, object identifiers and identifiers of keys.
+#[rattlefmt::skip]
+const TEXTS: [CallAndReply; 10] = [
+    ("1 CreateObject 1 0=0000000000000000,3=(6162636465666768696a)", "0 1"),
+    ("1 GetAttributeValue 1 1 3:300000", "0 =(6162636465666768696a)"),
+    ("1 FindObjectsInit 1 3=(6162636465666768696a)", "0"),
+    ("1 FindObjects 1 9", "0 1"),
+    ("1 CopyObject 1 1 10=(6a696867666564636261)", "0 2"),
+    ("1 GetAttributeValue 1 2 10:300000", "0 =(6a696867666564636261)"),
+    ("1 SetAttributeValue 1 2 12=(6162636465666768696a)", "0"),
+    ("1 GetAttributeValue 1 2 12:300000", "0 =(6162636465666768696a)"),
+    ("1 GenerateKey 1 350 161=0100000000000000,2=00,102=(6162636465666768696a) ff", "0 3"),
+    ("1 GetAttributeValue 1 3 102:300000", "0 =(6162636465666768696a)"),
 ];
 
 /// A text of a row, written out.
@@ -125,8 +140,9 @@ fn many_queries_may_be_asked_at_once(rt: HostRuntime) -> Result<(), Fail> {
 }
 
 #[test]
-fn a_value_may_be_long(rt: HostRuntime) -> Result<(), Fail> {
-    check_calls(&rt, rt.alloc(), &VALUES)
+fn values_and_texts_may_be_long(rt: HostRuntime) -> Result<(), Fail> {
+    check_calls(&rt, rt.alloc(), &VALUES)?;
+    check_calls(&rt, rt.alloc(), &TEXTS)
 }
 
 /// How many bytes a value has whose creation is a line of the greatest length.

@@ -1,5 +1,5 @@
 //! The program over devices that move single bytes: what it writes, and its status.
-use crate::devices::Devices;
+use crate::tests::devices::Devices;
 use ck_plays::MemorySink;
 use ck_program::{Runtime, options_of, run};
 use ck_token::Token;
