@@ -175,7 +175,7 @@ def is_summary_right(ended, plain):
 
 
 def refused_numbers(name, growths, step):
-    """The numbers of the growths that are refused of so many: one in `step`. The first of them
+    """The numbers of the growths that are refused of this many: one in `step`. The first of them
     follows from the name."""
     return range(1 + zlib.crc32(name.encode()) % step, growths + 1, step)
 

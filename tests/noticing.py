@@ -45,8 +45,8 @@ WRONG = {
 FEW_CALLS = 1_000
 
 # Scripts that run the right program, except where something is given or comes that is so in one
-# test only: so many callers, a line that fills the longest one, a long parameter, a reply with many
-# handles or many answers, many calls, and a packet.
+# test only: callers in threads, a line that fills the longest one, a long parameter, a reply with
+# many handles or many answers, many calls, and a packet.
 NO_ROOM = '{ echo "ck_run: out of memory" >&2; exit 3; }'
 WITH_INPUT = ('right=$1; input=$(mktemp); trap \'rm "$input"\' EXIT; cat > "$input"; '
               f'%s || {NO_ROOM}; "$right" < "$input"')
@@ -72,8 +72,8 @@ SLOW_AMONG_FEW = "exec awk 'END { for (i = 0; i < 300000; i++) x += i } { print 
 FEW_OBJECTS = {"FEWER": 3, "FEW": 10, "MANY": 40, "MOST": 50, "SEARCHES": 40,
                "SEARCHES_OF_MOST": 40, "MOST_TRIES": speed.TRIES}
 
-# Times of ever more, and whether they grow as they should; and of calls, of these with searches by a
-# label, and with others, and whether those by a label are fast.
+# Times of ever more, and whether they grow as they should; and of calls, of these with searches by
+# a label, and with others, and whether those by a label are fast.
 GROWING_TIMES = [((1, 2.1), True), ((1, 7.9, 62), True), ((1, 2), False), ((1, 8), False),
                  ((4, 4), False), ((1, 4, 8), False), ((2, 4, 16), False)]
 TIMES_OF_SEARCHES = [((1, 1.9, 4), True), ((1, 1, 1.1), True), ((1, 2, 4), False),
@@ -343,6 +343,7 @@ OF_TOKEN = ("ck_token", "a_wrong_pin_behind_another_callers_try_is_not_counted")
 OF_SEARCHES = ("ck_sessions", "a_logout_leaves_the_search_of_the_first_session")
 OF_TRAIT = ("ck_script", "a_pin_is_its_text")
 OF_NEWS = ("ck_callers", "news_are_not_learnt")
+OF_LAW = ("ck_journal", "definition_of_queries_gives_hidden_values")
 OTHER_REFUSALS = [
     (OF_TOKEN, ": ./proofs/tokens/Token/cut/Answers.antt:1:1: error: `invariant_of-self`", True),
     (OF_TOKEN, ": ./proofs/tokens/Token/cut/Answers.antt:1:1: error: `returns`", False),
@@ -354,6 +355,14 @@ OTHER_REFUSALS = [
     (OF_NEWS, ": ./proofs/callers/Caller/learn/Answers.antt:1:1: error: `invariant_of-self`", True),
     (OF_NEWS, ": ./proofs/callers/Caller/learn/Answers.antt:1:1: error: `overflow_add`", False),
     (OF_NEWS, " (only by a limit): note: src/callers.rt:1:1: (`invariant_of-self`)", False),
+    (OF_LAW, ": ./proofs/laws/hidden_values_are_not_given/Answers.antt:1:1: error: `a`", True),
+    (OF_LAW, ": ./proofs/ValueLemmas.antt:1:1: error: `a_lemma`", True),
+    (OF_LAW, ": ./proofs/Selections.antt:1:1: error: `a_lemma`", True),
+    (OF_LAW, ": ./specs/Laws.antt:1:1: error: `a_law`", True),
+    (OF_LAW, ": ./proofs/laws/pins_stay/Answers.antt:1:1: error: `returns`", False),
+    (OF_LAW, ": ./proofs/PinLaws.antt:1:1: error: `a_lemma`", False),
+    (OF_LAW, ": note: src/laws.rt:1:1: it is not proved that (`returns`)", False),
+    (OF_LAW, " (only by a limit): ./proofs/ValueLemmas.antt:1:1: error: `a_lemma`", False),
 ]
 
 NO_MEMORY = b"ck_run: out of memory\n"
@@ -416,7 +425,7 @@ WRONG_ENDS = [
 
 
 # A program that plays cases, a script, a script in threads, a race and calls with reserved room as
-# it must, and says that it has so many growths for each line that passes. Where one of them is
+# it must, and says that it has this many growths for each line that passes. Where one of them is
 # refused it first does something else.
 GROWING = """\
 shift
@@ -715,7 +724,7 @@ def refused_growths(checks):
 
 def growths_of(folder, count, refused):
     """How many growths are refused, how often something is made again, and how many faults are
-    found, of each kind, where the program has so many growths and does this where one is refused.
+    found, of each kind, where the program has this many growths and does this where one is refused.
     """
     path = write_program(folder, GROWING % (count, refused), "/bin/true")
     growths.CASES = growths.SCRIPTS = growths.RACES = path
@@ -726,7 +735,7 @@ def growths_of(folder, count, refused):
 
 
 def faults_of_counts(folder, count, refused):
-    """How many faults are found of what a program counts that has so many growths for each line,
+    """How many faults are found of what a program counts that has this many growths for each line,
     and does this where one is refused."""
     growths.CASES = write_program(folder, GROWING % (count, refused), "/bin/true")
     growths.CUT_CALLS = 9
@@ -734,8 +743,8 @@ def faults_of_counts(folder, count, refused):
 
 
 def status_of_short(path, least, least_again):
-    """How growths.py ends with the argument `short`, where so many growths must be refused, and
-    something made again after so many."""
+    """How growths.py ends with the argument `short`, where this many growths must be refused, and
+    something made again after this many."""
     growths.LEAST_OF_SHORT, growths.LEAST_MADE_AGAIN = least, least_again
     with unseen():
         return growths.main([path], [], is_short=True)

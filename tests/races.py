@@ -48,6 +48,9 @@ SHAPES = """\
 8, together, 5
 9, together, 7
 12, together in any order, 3
+4, cut, 0, together in any order, 5
+4, cut, 0, together in any order, 6
+4, cut, 0, together in any order, 7
 """
 
 # The races of the file whose wrong replies are played without the word in-turn too, by their places

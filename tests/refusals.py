@@ -7,11 +7,13 @@ or in its file of proofs, and the goal there may be of the clause: one that ends
 another clause isn't, nor one of what another function asks for, of a number or an index, or of the
 invariant of a type, except where the edit names the type. Where the clause is one that callers must
 show, the edit may be refused at a call, where that clause isn't shown and not another one. An edit
-of a definition is refused in a proof of the law that it names, or in a lemma of that proof, so the
-place doesn't count there. Edits that are refused elsewhere though they break their clauses are
-listed with reasons. Prints each edit that has no such verdict; the status is 1 then.
+of a definition is to be refused in a proof of the law that it names, in a lemma that this proof
+comes to by its `use` lines, or in the definitions. Edits that are refused elsewhere though they
+break their clauses are listed with reasons. Prints each edit that has no such verdict; the status
+is 1 then.
 """
 import functools
+import glob
 import os
 import re
 import sys
@@ -39,7 +41,6 @@ OF_NO_CLAUSE = re.compile(r"(?:invariant|overflow|nonzero|\w*bounds)|.+-returns\
 # Edits that are refused elsewhere, though each breaks its clause, too: the goal, and why it comes
 # first. Where it is the answer that no longer fits, the goal may be true.
 INVARIANT = "what is answered of the type's invariant doesn't fit, and that is looked at first"
-EARLIER = "the body breaks this clause as well, and it stands first"
 ELSEWHERE = {
     "ck_callers/a_caller_does_not_see_its_own_reply": ("invariant_of-self", INVARIANT),
     "ck_callers/a_caller_keeps_its_reply_before": ("invariant_of-self", INVARIANT),
@@ -52,24 +53,8 @@ ELSEWHERE = {
         "scope-returns", "the closure in which the scripts are put together is looked at first"),
     "ck_foreign/work_that_is_not_done_is_used": (
         "call_after-requires", "the body breaks what it calls, and no clause of its own before"),
-    "ck_module/a_value_is_read_as_a_digest": ("returns-clause-length", EARLIER),
-    "ck_module/handles_are_read_as_mechanisms": ("returns-clause-count", EARLIER),
-    "ck_module/mechanisms_are_read_as_handles": ("returns-clause-count", EARLIER),
-    "ck_module/the_value_of_the_first_query_is_read": ("returns-clause-length", EARLIER),
-    "ck_plays/the_input_is_repeated": ("returns-in_err-extend_open_line-clause-err", EARLIER),
-    "ck_program/every_fault_ends_with_status_7": (
-        "returns-then-run-eq0-clause-end_found",
-        "a test of the status stands before the end, and the clause isn't found again behind it"),
-    "ck_script/a_line_may_have_one_byte_more": ("returns-then-is_empty-clause-line", EARLIER),
-    "ck_script/comments_begin_with_a_semicolon": ("returns-then-is_empty-clause-line", EARLIER),
     "ck_shared/calls_are_those_of_the_first_caller": (
         "extend-requires-clause-next", "the history is made longer by the entry before the end"),
-    "ck_shared/close_wants_no_caller_back": ("returns-then-are_all-clause-missing", EARLIER),
-    "ck_shared/every_call_answers_ok": ("returns-clause-called", EARLIER),
-    "ck_shared/outputs_come_in_the_reverse_order": (
-        "returns-in-Ok-done-clause-count", "what is answered of the count doesn't fit any more"),
-    "ck_shared/shared_token_is_not_put_back": (
-        "returns-in-Ok-clause-limits", "what is answered of the limits doesn't fit any more"),
     "ck_store/objects_are_lost_where_memory_ends": (
         "invariant_of-self", "it is wanted where the objects are cleared, before the end"),
     "ck_store/setting_an_attribute_also_changes_another_object": ("invariant_of-self", INVARIANT),
@@ -122,6 +107,22 @@ def is_in(crate, owner, name, places):
                for of, at in places)
 
 
+@functools.lru_cache(maxsize=None)
+def proofs_of(crate, name):
+    """The files of the proof of a law, and those of the lemmas that they come to."""
+    folder = os.path.join(inventory.ROOT, "crates", crate)
+    own = glob.glob(os.path.join(folder, "proofs", "*", name, "*.antt"))
+    found, waiting = set(), [os.path.relpath(path, folder) for path in own]
+    while waiting:
+        path = waiting.pop()
+        if path not in found and os.path.exists(os.path.join(folder, path)):
+            found.add(path)
+            waiting += [f"{used.replace('.', '/')}.antt" for used in re.findall(
+                rf"\buse Rattle\.{crate}\.(proofs\.[\w.]*\w)", inventory.text_of(
+                    f"crates/{crate}/{path}"))]
+    return found
+
+
 def may_be_of(goal, name, label):
     """Whether a goal may be of a function's clause of this name, or of any where none is named."""
     asked, named = ASKED.match(goal[1]), NAMED.search(goal[1])
@@ -138,9 +139,9 @@ def is_at_clause(crate, edit, said):
     place, goal = PLACE.search(said), GOAL.search(said)
     if said.startswith(OTHER_REASONS) or not place:
         return False
-    if "file: specs/" in text:
-        return True
     owner, name, label = CLAUSE.search(text).groups()
+    if "file: specs/" in text:
+        return place[1].startswith("specs/") or place[1] in proofs_of(crate, name)
     places = functions_at(crate, place[1], int(place[2]))
     if name[0].isupper():
         return name in [of for of, _ in places] and bool(goal) and goal[1].startswith("invariant")

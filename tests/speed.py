@@ -123,7 +123,7 @@ def keys(count):
 
 
 def sessions(count, objects=0, closing="CloseSession {}"):
-    """Calls that open sessions, one after the other, create so many session objects in each, and
+    """Calls that open sessions, one after the other, create this many session objects in each, and
     close it by this call."""
     return [line for number in range(count) for line in (
         "1 OpenSession 6", *[f"1 CreateObject {number + 2} 0=0000000000000000"] * objects,
@@ -136,7 +136,7 @@ def logins(count, login="1 Login 1 0 31323334"):
 
 
 def long_template(count):
-    """A creation by so many equal labels, and as many equal applications."""
+    """A creation by this many equal labels, and as many equal applications."""
     return [f"1 CreateObject 1 0=0000000000000000{',3=61' * count}{',10=61' * count}"]
 
 
@@ -165,7 +165,7 @@ def label_searches(tests):
     tests.end("searches by label")
 
 
-# What takes as long among many as among few, and the calls of so many.
+# What takes as long among many as among few, and the calls of this many.
 EVEN = [
     ("creations", creations),
     ("creations and destructions", lambda count: creations(count) + destructions(count)),

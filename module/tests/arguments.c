@@ -138,7 +138,7 @@ static void test_null_operations(void) {
     end_token();
 }
 
-/* An update of so many bytes is made in pieces, and the first of them is at NULL. What was added
+/* An update of that many bytes is made in pieces, and the first of them is at NULL. What was added
  * before stays. */
 static void test_null_updates(void) {
     static const CK_ULONG lengths[] = {(1 << 20) + 1, (CK_ULONG)1 << 32, (CK_ULONG)1 << 40};

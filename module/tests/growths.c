@@ -762,7 +762,7 @@ static bool has_line_end(const char *path) {
     return is_end;
 }
 
-/* Opens the library anew, and so many sessions. */
+/* Opens the library anew, and this many sessions. */
 static void begin_sessions(int count) {
     unlink(journal);
     begin_library();

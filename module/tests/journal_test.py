@@ -335,7 +335,7 @@ def errors_in(path):
 
 @contextlib.contextmanager
 def limited_memory(more):
-    """This process can take only so many bytes more."""
+    """This process can take only this many bytes more."""
     with open("/proc/self/statm", encoding="ascii") as file:
         taken = int(file.read().split()[0]) * resource.getpagesize()
     before = resource.getrlimit(resource.RLIMIT_AS)

@@ -29,7 +29,7 @@ static void owe_memory(const char *name, const void *at, size_t length) {
 }
 
 static void owe_list(const char *name, const void *at, size_t count, size_t size) {
-    owe(count <= SIZE_MAX / size, name, "no memory has so many elements");
+    owe(count <= SIZE_MAX / size, name, "no memory has that many elements");
     owe_memory(name, at, count * size);
 }
 

@@ -1,6 +1,6 @@
 //! What callers of a shared token take that work at once, each in a thread of its own.
 ghost use Rattle.std.specs.Prelude.{◌≡◌, ◌≤◌, OnOk, length};
-ghost use Rattle.ck_journal.specs.Histories.{start, start_of};
+ghost use Rattle.ck_token.specs.Histories.{start, start_of};
 
 use crate::tasks::{Round, Task, Tasks};
 use crate::times::Times;

@@ -32,8 +32,8 @@ impl<K: TokenId> Model for BoardCopy<K> {
 }
 
 impl<K: TokenId> BoardCopy<K> {
-    /// The two copies, before the first entry. The clause is about the one that is published first:
-    /// nothing rests on which history the other one is of.
+    /// The two copies, before the first entry. The clause is about the first, which is published
+    /// first. Nothing rests on the history that the second shows.
     pub(crate) fn pair(board: &TokenBoard, known: &KnownHistory<K>) -> (BoardCopy<K>, BoardCopy<K>)
         requires { board.now ≡ board_of K.limits known.now.history }
         ensures { result.0 ≡ known.now.history }

@@ -152,9 +152,9 @@ impl<K: TokenId> Caller<K> {
         self.known = known.duplicate();
     }
 
-    /// Shows that a history which goes on from what the caller knows has no entries of the caller
-    /// except those of its calls. The books are those of that history. A step of the proof; it
-    /// takes `&mut`, as std's ledgers do, and changes nothing.
+    /// Shows to the prover that a history which goes on from what the caller knows has no entries
+    /// of the caller except those of its calls. The books are those of that history. It takes
+    /// `&mut`, as std's ledgers do, and changes nothing.
     pub fn show_settled(&mut self, books: &mut CallBooks<K>)
         ensures settled { (h : History) → books.old ≡ call_counts h
             → IsFront self.old.seen h → IsSettled h self.old }

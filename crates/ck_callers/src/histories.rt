@@ -132,8 +132,8 @@ impl<K: HistoryId> Front<K> {
         }
     }
 
-    /// Whether it is a front of the other one, as it is where it is no longer. Else the other is a
-    /// front of it.
+    /// Whether it is a front of the other one: it is, unless it has more entries. Then the other is
+    /// a front of it.
     pub fn is_front_of(&self, other: &Front<K>) -> bool
         ensures shorter { IsTrue result ↔ (entry_count self.now ≤ entry_count other.now) }
         ensures front { IsTrue result → IsFront self.now other.now }
@@ -145,8 +145,9 @@ impl<K: HistoryId> Front<K> {
         self.count <= other.count
     }
 
-    /// Adds an entry to the history where it is as long as this front, and says whether it did. The
-    /// other front is then one of the history before.
+    /// Adds an entry to the history where that is as long as this front, and says whether it was.
+    /// The other front is then a front of the history before the entry. The history grows only by a
+    /// `Head`. No contract keeps that one from being given away: it lies under the lock.
     pub fn add_after(&mut self, head: &Head<K>, other: &Front<K>, entry: &Entry) -> bool
         requires room { entry_count self.old < 2 ^ 64 - 1 }
         requires legal { entry.now.reply ≡ answer K.limits self.old entry.now.call }

@@ -240,7 +240,7 @@ played-nothing limits most read written A P f e h w =
       };
     })
 
--- a turn that found the end
+-- a read that found the end
 pub read_on-ended : (ended : Bool) (limits : Ranges) (most : ℕ) (read : Reading) (written : Writing)
     (reads : ℕ)
     (player : PlayerState) (A : Reading → Type 0) (P : Writing → Type 0)
@@ -249,7 +249,7 @@ pub read_on-ended : (ended : Bool) (limits : Ranges) (most : ℕ) (read : Readin
 read_on-ended true limits most read written reads player A P e h = h
 read_on-ended false limits most read written reads player A P e h = cc
 
--- a turn that didn't
+-- a read that didn't
 pub read_on-going : (ended : Bool) (limits : Ranges) (most : ℕ) (read : Reading) (written : Writing)
     (reads : ℕ)
     (player : PlayerState) (A : Reading → Type 0) (P : Writing → Type 0)

@@ -1,4 +1,4 @@
--- Where playing stands between two lines
+-- Where playing stands between two lines. This mirrors the code: no text is defined by it.
 use Rattle.std.specs.Prelude.{◌≡◌, ◌<◌, ◌≤◌, ℕ, suc, Bool, true, false, List, [], ◌∷◌, ◌++◌, Ok}
 use Rattle.std.specs.Prelude.{Err, length, min}
 use Rattle.ck_types.specs.TokenLimits.{Ranges}

@@ -158,11 +158,17 @@ fn play_shared<K: TokenId + Send + Sync, G: JournaledToken + Send, R: Runtime>(
     requires base { K.base ≡ empty_base }
     requires limits { limits ≡ K.limits }
     requires callers { (1 ≤ callers) × (callers ≤ 8) × (callers ≡ K.callers) }
+
+    // `K` stands for the names of this identity.
     requires book { identity.history.seen.book ≡ K.book }
     requires ledgers { (n : ℕ) → K.ledger n ≡ name_of identity.ledgers n }
+
+    // The token that is taken back.
     ensures limits { IfOk result (λ token. (G.state token).limits ≡ limits) }
     ensures new { IfOk result (λ token. IsFront (start empty_base) (G.state token).history) }
     ensures only { IfOk result (λ token. AreCallers callers (G.state token).history) }
+
+    // Its journal has the calls of each caller.
     ensures all { IfOk result (λ token. (number : ℕ) → 1 ≤ number → number ≤ callers
         → HasEntriesOf calls.now number (G.state token).history) }
 {

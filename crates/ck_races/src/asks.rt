@@ -2,12 +2,11 @@
 //! before, asks for the state of a session, without the lock, until it sees the login. Then it
 //! makes a call of its own, and sees a second login by asking only. The last asks before the first
 //! call; a third one makes no call, and asks once more after the first login.
-ghost use Rattle.std.specs.Prelude.{◌≡◌, ◌≤◌};
-ghost use Rattle.ck_journal.specs.Histories.{start, start_of};
+ghost use Rattle.std.specs.Prelude.{◌≡◌, ◌≤◌, IfOk};
+ghost use Rattle.ck_token.specs.Histories.{start, start_of};
 
-use crate::journals::check_audit;
-use crate::scripts::{StepScript, check_taken, scripts_of};
-use crate::shared_work::{Shared, SharedWork, share_with};
+use crate::scripts::{StepScript, check_taken, return_callers, scripts_of};
+use crate::shared_work::{Shared, SharedWork, share_audited};
 use crate::tokens::{cut_token, initialized_token};
 use anyhow::{Context, bail, ensure};
 use ck_script::reply_line;
@@ -251,17 +250,11 @@ fn steps_of(alloc: Global, caller: u32, callers: usize) -> anyhow::Result<Vec<St
     Ok(steps)
 }
 
-/// The answers of scripts are right, and their callers come back. Says how many questions were
-/// answered.
-fn check_scripts<K: TokenId>(
-    alloc: Global,
-    scripts: Vec<StepScript<K>>,
-    callers: &mut Vec<Caller<K>>,
-) -> anyhow::Result<u64> {
+/// The answers of scripts are right. Says how many questions were answered.
+fn check_scripts<K: TokenId>(alloc: Global, scripts: &[StepScript<K>]) -> anyhow::Result<u64> {
     let mut answered = 0u64;
     for script in scripts {
-        answered = answered.saturating_add(check_script(alloc, &script)?);
-        callers.push(script.caller)?;
+        answered = answered.saturating_add(check_script(alloc, script)?);
     }
     Ok(answered)
 }
@@ -349,38 +342,64 @@ impl<'a, K: TokenId, R: Runtime> Shared<'a, K, R> {
         let count = callers.len();
         let scripts = scripts_of(alloc, callers, |caller| steps_of(alloc, caller, count))?;
         let scripts = run_steps(rt, alloc, self.token, scripts);
-        let answered = check_scripts(alloc, scripts, callers)?;
+        let answered = check_scripts(alloc, &scripts)?;
+        return_callers(scripts, callers)?;
         check_after(alloc, callers, &older)?;
         self.check_own_call(callers)?;
         Ok(answered)
     }
 }
 
+/// A token before its first call.
+#[derive(Clone, Copy)]
+enum FirstToken {
+    New,
+    /// A new one whose journal was cut.
+    Cut,
+    /// An initialized one whose journal was cut.
+    Initialized,
+}
+
+impl FirstToken {
+    fn make(self, alloc: Global) -> anyhow::Result<Token>
+        ensures { IfOk result (λ token. token.history ≡ start (start_of token.history)) }
+    {
+        match self {
+            FirstToken::New => Ok(Token::new(alloc, Limits::largest())),
+            FirstToken::Cut => cut_token(alloc, &[]),
+            FirstToken::Initialized => initialized_token(alloc),
+        }
+    }
+
+    /// What is answered of it.
+    fn state(self) -> &'static str {
+        match self {
+            FirstToken::New | FirstToken::Cut => "0 4 64 0 0",
+            FirstToken::Initialized => "0 404 64 0 0",
+        }
+    }
+}
+
 /// Callers call and ask. In the end the journal has an entry for each call. Says how many questions
 /// were answered.
-fn run_once<R: Runtime>(rt: R, callers: u32, token: Token, state: &str) -> anyhow::Result<u64>
+fn run_once<R: Runtime>(rt: R, callers: u32, first: FirstToken) -> anyhow::Result<u64>
     requires callers { (1 ≤ callers) × (callers ≤ 8) }
-    requires history { token.history ≡ start (start_of token.history) }
 {
-    let alloc = rt.alloc();
-    let work = SharedWork::LoginAndAsks(state);
-    let (token, outcome) = share_with(rt, token, callers, &work)?;
-    ensure!(token.journal().len() == ALL, "not an entry for each call");
-    check_audit(alloc, &token)?;
+    let work = SharedWork::LoginAndAsks(first.state());
+    let (outcome, entries) = share_audited(rt, first.make(rt.alloc())?, callers, &work)?;
+    ensure!(entries == ALL, "not an entry for each call");
     Ok(outcome.answered)
 }
 
-/// All of it on a new token, on a new one whose journal was cut and on an initialized one whose
-/// journal was cut. Says how many questions were answered.
+/// All of it on each token. Says how many questions were answered.
 fn run_on_each_token<R: Runtime>(rt: R, callers: u32) -> anyhow::Result<u64>
     requires callers { (1 ≤ callers) × (callers ≤ 8) }
 {
-    let alloc = rt.alloc();
-    let token = Token::new(alloc, Limits::largest());
-    let new = run_once(rt, callers, token, "0 4 64 0 0")?;
-    let cut = run_once(rt, callers, cut_token(alloc, &[])?, "0 4 64 0 0")?;
-    let initialized = run_once(rt, callers, initialized_token(alloc)?, "0 404 64 0 0")?;
-    Ok(new.saturating_add(cut).saturating_add(initialized))
+    let mut answered = 0u64;
+    for first in [FirstToken::New, FirstToken::Cut, FirstToken::Initialized] {
+        answered = answered.saturating_add(run_once(rt, callers, first)?);
+    }
+    Ok(answered)
 }
 
 /// All of it again and again. Says how many questions were answered.

@@ -2,7 +2,7 @@
 //! since: its bytes aren't taken in once more under the lock.
 use crate::journals::check_audit;
 use crate::shared_work::{Shared, SharedWork, share_timed};
-use anyhow::{Context, bail, ensure};
+use anyhow::{bail, ensure};
 use ck_shared::{Caller, Runtime, TokenId};
 use ck_token::{Bytes, Call, Limits, Mechanism, Pin, READ_WRITE, Rv, SHA256, Token};
 use std::alloc::Global;
@@ -57,15 +57,17 @@ impl<'a, K: TokenId, R: Runtime> Shared<'a, K, R> {
         Ok(())
     }
 
-    /// The first of two callers makes the calls with the messages, each after a call of the other.
-    pub(crate) fn make_calls_behind(&self, callers: &mut Vec<Caller<K>>) -> anyhow::Result<()> {
-        let mut other = callers.pop().context("a caller is missing")?;
-        let caller = callers.first_mut().context("a caller is missing")?;
+    /// Behind short calls the first of two callers makes the calls with the messages, each after a
+    /// call of the other.
+    pub(crate) fn make_calls_behind(&self, callers: &mut [Caller<K>]) -> anyhow::Result<()> {
+        self.make_short_calls(callers)?;
+        let [caller, other] = callers else {
+            bail!("there are not two callers");
+        };
         for number in 0..CALLS {
             let call = call_of(self.rt.alloc(), number)?;
-            self.call_behind(caller, &mut other, call)?;
+            self.call_behind(caller, other, call)?;
         }
-        callers.push(other)?;
         Ok(())
     }
 }
@@ -84,8 +86,9 @@ fn time_unshared<R: CpuClock + Runtime>(rt: &R) -> anyhow::Result<Duration> {
 /// What they take on a shared token, each after a call of the other caller. Says how many calls
 /// there are, too.
 fn time_behind<R: CpuClock + Runtime>(rt: R) -> anyhow::Result<(Duration, u64)> {
-    let (time, token, _outcome) = share_timed(rt, &SharedWork::CallsBehindCalls)?;
-    Ok((time, check_audit(rt.alloc(), &token)?))
+    let (time, (token, _outcome)) = share_timed(rt, &SharedWork::CallsBehindCalls)?;
+    let entries = check_audit(rt.alloc(), &token)?;
+    Ok((time, entries))
 }
 
 /// Makes the calls, until they take less than one and a half times what they take on a token that

@@ -21,7 +21,7 @@ const LONG_IN: u64 = 4;
 /// A caller at a gate, with the sets of handles that it knows, its random numbers and all replies
 /// that it got.
 #[derive(Drop)]
-pub(crate) struct DrawingCaller<'a, 'c, K: TokenId, G, R> {
+struct DrawingCaller<'a, 'c, K: TokenId, G, R> {
     rt: &'a R,
     alloc: Global,
     gate: &'a G,
@@ -52,7 +52,7 @@ fn keep_handle(handles: &Handles, word: &str, reply: &Reply) {
 
 impl<'a, 'c, K: TokenId, G: Gate<K>, R: Wait> DrawingCaller<'a, 'c, K, G, R> {
     /// A caller that has made no call yet. Its draws follow from its number.
-    pub(crate) fn new(
+    fn new(
         rt: &'a R,
         alloc: Global,
         gate: &'a G,
@@ -109,7 +109,7 @@ impl<'a, 'c, K: TokenId, G: Gate<K>, R: Wait> DrawingCaller<'a, 'c, K, G, R> {
     }
 
     /// Draws rows until the caller has made its calls. Gives the replies.
-    pub(crate) fn make(mut self) -> anyhow::Result<Vec<Reply>> {
+    fn make(mut self) -> anyhow::Result<Vec<Reply>> {
         // Each row has a call at least, so this many rows are enough. The loop must be seen to end.
         for _ in 0..CALLS {
             if self.replies.len() < CALLS {
@@ -118,4 +118,16 @@ impl<'a, 'c, K: TokenId, G: Gate<K>, R: Wait> DrawingCaller<'a, 'c, K, G, R> {
         }
         Ok(self.replies)
     }
+}
+
+/// Makes the drawn calls of a caller at a gate, with these sets of handles. Gives the replies.
+// A function, so that what the caller holds is lent for one time.
+pub(crate) fn make_drawn<'a, K: TokenId, G: Gate<K>, R: Wait>(
+    rt: &'a R,
+    alloc: Global,
+    gate: &'a G,
+    caller: &mut Caller<K>,
+    sets: &'a [Handles; SETS],
+) -> anyhow::Result<Vec<Reply>> {
+    DrawingCaller::new(rt, alloc, gate, caller, sets).make()
 }

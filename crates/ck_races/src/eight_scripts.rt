@@ -68,14 +68,20 @@ impl<'a, K: TokenId + Send + Sync, R: Runtime> Shared<'a, K, R> {
     }
 }
 
+/// The callers got the replies of their entries, and there is an entry for each call. Says how many
+/// there are.
+fn check_calls(alloc: Global, token: &Token, replies: Vec<CallerReplies>) -> anyhow::Result<u64> {
+    let journal = token.journal();
+    check_replies(journal, replies)?;
+    ensure!(journal.len() == ENTRIES, "not an entry for each call");
+    check_audit(alloc, token)
+}
+
 /// Makes the calls of all scripts on a new token, and compares the replies with its journal, whose
 /// first entry is of the first call. Says how many calls there are.
 pub(crate) fn run_eight_scripts<R: Runtime>(rt: R) -> anyhow::Result<u64> {
     let alloc = rt.alloc();
     let token = Token::new(alloc, Limits::largest());
     let (token, outcome) = share_with(rt, token, CALLERS, &SharedWork::EightScripts)?;
-    check_replies(token.journal(), outcome.replies)?;
-    let is_kept = token.journal().len() == ENTRIES;
-    ensure!(is_kept, "not an entry for each call");
-    check_audit(alloc, &token)
+    check_calls(alloc, &token, outcome.replies)
 }

@@ -3,10 +3,9 @@
 //! it would come too late. The one that was first sees the other's session by asking only.
 use crate::asks::{await_status, check_ask, check_status};
 use crate::gates::HeldGate;
-use crate::journals::check_audit;
 use crate::orders::CallOrder;
-use crate::scripts::{StepScript, check_taken, scripts_of};
-use crate::shared_work::{Shared, SharedWork, share_with};
+use crate::scripts::{StepScript, check_taken, return_callers, scripts_of};
+use crate::shared_work::{Shared, SharedWork, share_audited};
 use crate::tokens::initialized_token;
 use anyhow::ensure;
 use ck_shared::{Answered, Ask, Caller, Runtime, Step, TokenId, run_steps};
@@ -73,19 +72,17 @@ fn check_script<K: TokenId>(
     Ok(answers.len() as u64)
 }
 
-/// The callers of scripts come back. The first of them made its call as the entry of this number,
-/// and the second as the other of two. Says how many steps were answered.
+/// The first of two callers made its call as the entry of this number, and the second as the other
+/// of two. Says how many steps were answered.
 fn check_scripts<K: TokenId>(
     alloc: Global,
-    scripts: Vec<StepScript<K>>,
-    callers: &mut Vec<Caller<K>>,
+    scripts: &[StepScript<K>],
     first: u64,
 ) -> anyhow::Result<u64> {
     let mut entry = first;
     let mut answered = 0u64;
     for script in scripts {
-        answered = answered.saturating_add(check_script(alloc, &script, entry)?);
-        callers.push(script.caller)?;
+        answered = answered.saturating_add(check_script(alloc, script, entry)?);
         entry = if entry == 1 { 2 } else { 1 };
     }
     Ok(answered)
@@ -119,7 +116,8 @@ impl<'a, K: TokenId, R: Runtime> Shared<'a, K, R> {
         let (rt, alloc) = (self.rt, self.rt.alloc());
         let scripts = scripts_of(alloc, callers, |_| steps(alloc))?;
         let scripts = run_steps(rt, alloc, &HeldGate::new(self.token, order), scripts);
-        let answered = check_scripts(alloc, scripts, callers, u64::from(first))?;
+        let answered = check_scripts(alloc, &scripts, u64::from(first))?;
+        return_callers(scripts, callers)?;
         for caller in callers {
             self.check_opened(caller)?;
         }
@@ -136,9 +134,8 @@ fn run_once<R: Runtime>(rt: R, first: u32) -> anyhow::Result<u64> {
         first,
         order: &order,
     };
-    let (token, outcome) = share_with(rt, initialized_token(alloc)?, 2, &work)?;
+    let (outcome, _entries) = share_audited(rt, initialized_token(alloc)?, 2, &work)?;
     ensure!(!order.is_late(), "a step wasn't the next one in time");
-    check_audit(alloc, &token)?;
     Ok(outcome.answered)
 }
 

@@ -4,10 +4,10 @@ use crate::journals::{
     CallerReplies, check_entries, check_in_any_order, check_number, check_order, check_replies,
 };
 use crate::orders::CallOrder;
-use crate::races::{RaceLine, races_in};
+use crate::races::{Race, RaceLine, races_in};
 use crate::runs::check_run;
 use anyhow::{bail, ensure};
-use ck_token::{Limits, Token};
+use ck_token::{Journal, Limits, Token};
 use std::alloc::Global;
 
 /// Calls of two callers, and the same calls with a wrong reply.
@@ -36,42 +36,72 @@ fn make_exchanged(
     Ok(all)
 }
 
-/// What is said of wrong inputs.
-fn judge_wrong(alloc: Global) -> anyhow::Result<Vec<anyhow::Result<()>>> {
-    let races = races_in(alloc, RACES)?;
-    let [race, wrong] = races.as_slice() else {
-        bail!("there are not two races");
-    };
-    let mut token = Token::new(alloc, Limits::largest());
-    let exchanged = make_exchanged(alloc, &mut token, &race.lines)?;
-    let mut other = Token::new(alloc, Limits::largest());
-    let also_exchanged = make_exchanged(alloc, &mut other, &race.lines)?;
-    let order = CallOrder::new(&[1, 2]);
-    let run = check_run(alloc, &mut other, race, &order, also_exchanged);
-    let none = CallerReplies {
-        number: 1,
-        replies: Vec::new(alloc),
-    };
-    let journal = token.journal();
-    Ok(vec![in alloc;
-        check_status(alloc, &None, "0"),
-        check_number(0, 2),
-        check_replies(journal, exchanged),
-        run.map(|_calls| ()),
-        check_replies(journal, vec![in alloc; none]?),
-        check_order(journal, &race.lines, &[2, 1]),
-        check_order(journal, &[], &[1, 2]),
-        check_entries(alloc, &wrong.lines, journal),
-        check_entries(alloc, &[], journal),
-        check_in_any_order(alloc, &wrong.lines, journal),
-    ]?)
+/// How many wrong inputs were refused.
+#[derive(Drop)]
+struct Refusals {
+    count: u64,
+}
+
+impl Refusals {
+    /// Counts a wrong input, of which this was said.
+    fn add(&mut self, said: anyhow::Result<()>) -> anyhow::Result<()> {
+        ensure!(said.is_err(), "what is wrong isn't refused");
+        self.count = self.count.saturating_add(1);
+        Ok(())
+    }
+
+    /// A status that isn't there, and a number at another place.
+    fn add_answers(&mut self, alloc: Global) -> anyhow::Result<()> {
+        self.add(check_status(alloc, &None, "0"))?;
+        self.add(check_number(0, 2))
+    }
+
+    /// A run whose callers got the replies of each other.
+    fn add_run(&mut self, alloc: Global, token: &mut Token, race: &Race) -> anyhow::Result<()> {
+        let exchanged = make_exchanged(alloc, token, &race.lines)?;
+        let order = CallOrder::new(&[1, 2]);
+        let run = check_run(alloc, token, race, &order, exchanged);
+        self.add(run.map(|_calls| ()))
+    }
+
+    /// Replies that aren't those of the callers' entries, and too few.
+    fn add_replies(&mut self, alloc: Global, token: &mut Token, race: &Race) -> anyhow::Result<()> {
+        let exchanged = make_exchanged(alloc, token, &race.lines)?;
+        self.add(check_replies(token.journal(), exchanged))?;
+        let none = CallerReplies {
+            number: 1,
+            replies: Vec::new(alloc),
+        };
+        self.add(check_replies(token.journal(), vec![in alloc; none]?))
+    }
+
+    /// Entries in another order, others than those of the lines, and more than there are lines.
+    fn add_entries(
+        &mut self,
+        alloc: Global,
+        journal: &Journal,
+        lines: &[RaceLine],
+        wrong: &[RaceLine],
+    ) -> anyhow::Result<()> {
+        self.add(check_order(journal, lines, &[2, 1]))?;
+        self.add(check_order(journal, &[], &[1, 2]))?;
+        self.add(check_entries(alloc, wrong, journal))?;
+        self.add(check_entries(alloc, &[], journal))?;
+        self.add(check_in_any_order(alloc, wrong, journal))
+    }
 }
 
 /// All wrong inputs are refused. Says how many there are.
 pub(crate) fn check_judges(alloc: Global) -> anyhow::Result<u64> {
-    let judged = judge_wrong(alloc)?;
-    for one in &judged {
-        ensure!(one.is_err(), "what is wrong isn't refused");
-    }
-    Ok(judged.len() as u64)
+    let races = races_in(alloc, RACES)?;
+    let [race, wrong] = races.as_slice() else {
+        bail!("there are not two races");
+    };
+    let mut refusals = Refusals { count: 0 };
+    refusals.add_answers(alloc)?;
+    refusals.add_run(alloc, &mut Token::new(alloc, Limits::largest()), race)?;
+    let mut token = Token::new(alloc, Limits::largest());
+    refusals.add_replies(alloc, &mut token, race)?;
+    refusals.add_entries(alloc, token.journal(), &race.lines, &wrong.lines)?;
+    Ok(refusals.count)
 }

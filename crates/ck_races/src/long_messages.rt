@@ -1,7 +1,6 @@
 //! A long message is taken in before its call where an operation takes it, and else not; and while
 //! it is, the lock is free.
-use crate::journals::check_audit;
-use crate::shared_work::{Shared, SharedWork, share_with};
+use crate::shared_work::{Shared, SharedWork, share_audited};
 use anyhow::{Context, ensure};
 use ck_shared::{Caller, Runtime, TokenId};
 use ck_token::{Bytes, Call, Limits, Mechanism, NoMemory, Pin, READ_WRITE, SHA256, Token};
@@ -19,7 +18,7 @@ impl<'a, K: TokenId, R: Runtime> Shared<'a, K, R> {
 
     /// A caller begins a digest. Before, no message is taken in; then a long one is, and a shorter
     /// one isn't.
-    pub(crate) fn take_in_messages(&self, callers: &mut [Caller<K>]) -> anyhow::Result<()> {
+    fn take_in_messages(&self, callers: &mut [Caller<K>]) -> anyhow::Result<()> {
         let (pin, flags) = (Pin::of(b"1234"), READ_WRITE);
         let mechanism = Mechanism::new(self.rt.alloc(), SHA256);
         let caller = callers.first_mut().context("a caller is missing")?;
@@ -41,12 +40,22 @@ impl<'a, K: TokenId, R: Runtime> Shared<'a, K, R> {
         );
         Ok(())
     }
+
+    /// Behind short calls a caller begins a digest, and adds long messages to it.
+    pub(crate) fn add_long_messages(&self, callers: &mut Vec<Caller<K>>) -> anyhow::Result<()>
+    where
+        K: Send + Sync,
+    {
+        self.make_short_calls(callers)?;
+        self.take_in_messages(callers)?;
+        self.add_messages(callers)
+    }
 }
 
 /// Makes the calls on a new token. Says how many there are.
 pub(crate) fn run_long_messages<R: Runtime>(rt: R) -> anyhow::Result<u64> {
     let alloc = rt.alloc();
     let token = Token::new(alloc, Limits::largest());
-    let (token, _outcome) = share_with(rt, token, 2, &SharedWork::LongMessages)?;
-    check_audit(alloc, &token)
+    let (_outcome, entries) = share_audited(rt, token, 2, &SharedWork::LongMessages)?;
+    Ok(entries)
 }

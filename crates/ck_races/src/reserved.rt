@@ -1,6 +1,6 @@
 //! Calls for which room in the journal is reserved, and which take no other memory
 //! (`bench/growths.py` refuses it).
-use crate::tokens::make_calls_of;
+use crate::tokens::{lines_in, make_calls};
 use anyhow::ensure;
 use ck_token::{Call, KeyState, Limits, Rv, Token};
 use std::alloc::Global;
@@ -16,11 +16,17 @@ const FIRST_CALLS: [&str; 7] = [
     "1 CreateObject 1 0=0400000000000000,100=1000000000000000,11=4a656665 -> 0 4294967297",
 ];
 
+/// Makes the first calls, and reserves room for three more entries in the journal.
+fn make_first_calls(alloc: Global, token: &mut Token) -> anyhow::Result<()> {
+    make_calls(alloc, token, &lines_in(alloc, &FIRST_CALLS)?)?;
+    token.reserve(3)?;
+    Ok(())
+}
+
 /// A token with room for three more entries in its journal.
 pub(crate) fn reserved_token(alloc: Global) -> anyhow::Result<Token> {
     let mut token = Token::new(alloc, Limits::largest());
-    make_calls_of(alloc, &mut token, &FIRST_CALLS)?;
-    token.reserve(3)?;
+    make_first_calls(alloc, &mut token)?;
     Ok(token)
 }
 

@@ -31,10 +31,15 @@ fn run_calls(alloc: Global, token: &mut Token, lines: &[RaceLine]) -> anyhow::Re
     Ok(1)
 }
 
+/// Runs the calls of lines, which have their replies then. Says how many times it stopped.
+fn run_lines(alloc: Global, token: &mut Token, lines: &[RaceLine]) -> anyhow::Result<u64> {
+    let stops = run_calls(alloc, token, lines)?;
+    check_entries(alloc, lines, token.journal())?;
+    check_retried(alloc, token, stops)
+}
+
 /// Runs the calls of a race, and says how many times it stopped.
 pub(crate) fn retry_run(alloc: Global, race: &Race) -> anyhow::Result<u64> {
     let mut token = prepared_token(alloc, race)?;
-    let stops = run_calls(alloc, &mut token, &race.lines)?;
-    check_entries(alloc, &race.lines, token.journal())?;
-    check_retried(alloc, &token, stops)
+    run_lines(alloc, &mut token, &race.lines)
 }

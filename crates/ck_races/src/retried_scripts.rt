@@ -2,7 +2,7 @@
 //! `bench/growths.py` refuses, those that are left are a script of their own.
 use crate::journals::{check_entries, check_retried};
 use crate::races::{Race, RaceLine};
-use crate::scripts::calls_of;
+use crate::scripts::{calls_of, return_callers};
 use crate::shared_work::{Shared, SharedWork, share_with};
 use crate::tokens::prepared_token;
 use anyhow::{Context, ensure};
@@ -32,48 +32,65 @@ fn script_of<K: TokenId>(
     }
 }
 
+/// The script of the one caller, which is taken.
+fn one_script<K: TokenId>(
+    alloc: Global,
+    callers: &mut Vec<Caller<K>>,
+    calls: Vec<Call>,
+) -> anyhow::Result<Vec<Script<K>>> {
+    let caller = callers.pop().context("a caller is missing")?;
+    Ok(vec![in alloc; script_of(alloc, caller, calls)?]?)
+}
+
+/// How many of this many calls of the one script were answered.
+fn count_answered<K: TokenId>(scripts: &[Script<K>], calls: usize) -> anyhow::Result<usize> {
+    let script = scripts.first().context("a script is missing")?;
+    let answered = script.replies().len();
+    let is_done = script.started() && script.outcome().is_ok();
+    ensure!(is_done == (answered == calls), "a script ended early");
+    Ok(answered)
+}
+
+/// The one caller has made this many calls, and knows as many entries.
+fn check_counts<K: TokenId>(callers: &[Caller<K>], answered: u64) -> anyhow::Result<()> {
+    let caller = callers.first().context("a caller is missing")?;
+    ensure!(
+        caller.count() == answered && caller.seen() == answered,
+        "a script that ended early has other entries than calls"
+    );
+    Ok(())
+}
+
 impl<'a, K: TokenId + Send + Sync, R: Runtime> Shared<'a, K, R> {
-    /// A caller makes calls by a script. It comes back with how many were answered: where not all
-    /// were, the next one found no memory, or there was none for a thread.
+    /// The one caller makes calls by a script. Says how many were answered: where not all were, the
+    /// next one found no memory, or there was none for a thread.
     fn make_by_script(
         &self,
-        caller: Caller<K>,
+        callers: &mut Vec<Caller<K>>,
         lines: &[RaceLine],
-    ) -> anyhow::Result<(Caller<K>, usize)> {
+    ) -> anyhow::Result<usize> {
         let alloc = self.rt.alloc();
-        let mut scripts = Vec::new(alloc);
-        scripts.push(script_of(alloc, caller, calls_of(alloc, lines)?)?)?;
-        let script = run_scripts(self.rt, alloc, self.token, scripts)
-            .pop()
-            .context("a script is missing")?;
-        let is_done = script.started() && script.outcome().is_ok();
-        let (caller, replies) = script.into_parts();
-        ensure!(
-            is_done == (replies.len() == lines.len()),
-            "a script ended early"
-        );
-        Ok((caller, replies.len()))
+        let scripts = one_script(alloc, callers, calls_of(alloc, lines)?)?;
+        let scripts = run_scripts(self.rt, alloc, self.token, scripts);
+        let answered = count_answered(&scripts, lines.len())?;
+        return_callers(scripts, callers)?;
+        Ok(answered)
     }
 
-    /// A caller makes the calls of a race by scripts. Says how many of them ended without memory.
+    /// The one caller makes the calls of a race by scripts. Says how many of them ended without
+    /// memory.
     pub(crate) fn make_by_scripts(
         &self,
         callers: &mut Vec<Caller<K>>,
         race: &Race,
     ) -> anyhow::Result<u64> {
-        let caller = callers.pop().context("a caller is missing")?;
-        let (caller, answered) = self.make_by_script(caller, &race.lines)?;
-        ensure!(
-            caller.count() == answered as u64 && caller.seen() == answered as u64,
-            "a script that ended early has other entries than calls"
-        );
+        let answered = self.make_by_script(callers, &race.lines)?;
+        check_counts(callers, answered as u64)?;
         let left = race.lines.get(answered..).unwrap_or(&[]);
         if left.is_empty() {
-            callers.push(caller)?;
             return Ok(0);
         }
-        let (caller, answered) = self.make_by_script(caller, left)?;
-        callers.push(caller)?;
+        let answered = self.make_by_script(callers, left)?;
         ensure!(answered == left.len(), "out of memory a second time");
         Ok(1)
     }

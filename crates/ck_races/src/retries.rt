@@ -9,7 +9,7 @@ use crate::tokens::prepared_token;
 use anyhow::{bail, ensure};
 use ck_audit::are_same_replies;
 use ck_shared::{Ask, Caller, Runtime, Status, TokenId};
-use ck_token::Reply;
+use ck_token::{Reply, Token};
 use std::alloc::Global;
 
 /// What a caller knows, and what it is answered without the lock.
@@ -114,12 +114,8 @@ impl<'a, K: TokenId, R: Runtime> Shared<'a, K, R> {
     }
 
     /// Two callers make all calls of a race. Says how many were made again.
-    pub(crate) fn make_race(
-        &self,
-        callers: &mut Vec<Caller<K>>,
-        race: &Race,
-    ) -> anyhow::Result<u64> {
-        let [one, other] = callers.as_mut_slice() else {
+    pub(crate) fn make_race(&self, callers: &mut [Caller<K>], race: &Race) -> anyhow::Result<u64> {
+        let [one, other] = callers else {
             bail!("there are not two callers");
         };
         let Race {
@@ -133,17 +129,22 @@ impl<'a, K: TokenId, R: Runtime> Shared<'a, K, R> {
     }
 }
 
-/// Two callers make the calls of a race. Says how many were made again.
-fn retry_calls<R: Runtime>(rt: R, race: &Race) -> anyhow::Result<u64> {
-    let alloc = rt.alloc();
-    let token = prepared_token(alloc, race)?;
-    let (token, outcome) = share_with(rt, token, 2, &SharedWork::AllCalls(race))?;
+/// There is an entry for each call of a race, of which this many were made again.
+fn check_calls(alloc: Global, token: &Token, race: &Race, retries: u64) -> anyhow::Result<u64> {
     let calls = race.lines.len().saturating_add(race.afterwards.len());
     ensure!(
         token.journal().len() == calls as u64,
         "not an entry for each call"
     );
-    check_retried(alloc, &token, outcome.retries)
+    check_retried(alloc, token, retries)
+}
+
+/// Two callers make the calls of a race. Says how many were made again.
+fn retry_calls<R: Runtime>(rt: R, race: &Race) -> anyhow::Result<u64> {
+    let alloc = rt.alloc();
+    let token = prepared_token(alloc, race)?;
+    let (token, outcome) = share_with(rt, token, 2, &SharedWork::AllCalls(race))?;
+    check_calls(alloc, &token, race, outcome.retries)
 }
 
 /// Makes the calls of a race by two callers, by `run` and by `run_scripts`. Says how many were made

@@ -35,19 +35,29 @@ pub(crate) fn check_run(
     Ok(calls)
 }
 
-/// The callers of a race make its calls on a new token by `share`, the first ones in this order of
+/// The callers of a race make its calls on a token by `share`, the first ones in this order of
 /// their callers.
-fn run_shared<R: Runtime>(rt: R, race: &Race, callers: &[u32]) -> anyhow::Result<u64> {
+fn share_race<R: Runtime>(
+    rt: R,
+    token: &mut Token,
+    race: &Race,
+    callers: &[u32],
+) -> anyhow::Result<u64> {
     let alloc = rt.alloc();
-    let mut token = prepared_token(alloc, race)?;
     let order = CallOrder::new(callers);
     let calls = SharedCalls::Ordered {
         lines: &race.lines,
         order: &order,
     };
-    let all = share(rt, alloc, &mut token, race.callers(), &calls)?;
+    let all = share(rt, alloc, token, race.callers(), &calls)?;
     let all = in_order_of_callers(alloc, all)?;
-    check_run(alloc, &mut token, race, &order, all)
+    check_run(alloc, token, race, &order, all)
+}
+
+/// The same on a new token.
+fn run_shared<R: Runtime>(rt: R, race: &Race, callers: &[u32]) -> anyhow::Result<u64> {
+    let mut token = prepared_token(rt.alloc(), race)?;
+    share_race(rt, &mut token, race, callers)
 }
 
 /// The same by `run_scripts`, where the bytes of each long message are taken in before the call is
@@ -65,11 +75,10 @@ fn run_scripted<R: Runtime>(rt: R, race: &Race, callers: &[u32]) -> anyhow::Resu
     check_run(alloc, &mut token, race, &order, outcome.replies)
 }
 
-/// The calls of a race on a token that isn't shared, as they stand.
-fn make_in_order(alloc: Global, race: &Race) -> anyhow::Result<()> {
-    let mut token = prepared_token(alloc, race)?;
-    make_calls(alloc, &mut token, &race.lines)?;
-    make_calls(alloc, &mut token, &race.afterwards)
+/// Makes the calls of a race on a token that isn't shared, as they stand.
+fn make_race(alloc: Global, token: &mut Token, race: &Race) -> anyhow::Result<()> {
+    make_calls(alloc, token, &race.lines)?;
+    make_calls(alloc, token, &race.afterwards)
 }
 
 /// Runs a race again and again: with all calls in an order of their callers, first this one and
@@ -93,7 +102,7 @@ fn run_in_orders<R: Runtime>(rt: R, race: &Race, callers: &mut [u32]) -> anyhow:
 /// with that in which they stand. Says how many calls were made in threads.
 pub(crate) fn run_race<R: Runtime>(rt: R, race: &Race) -> anyhow::Result<u64> {
     let alloc = rt.alloc();
-    make_in_order(alloc, race)?;
+    make_race(alloc, &mut prepared_token(alloc, race)?, race)?;
     let callers = race.lines.iter().map(|line| line.caller);
     let mut callers: Vec<u32> = callers.collect(alloc)?;
     run_in_orders(rt, race, &mut callers)

@@ -13,6 +13,26 @@ use std::mem;
 /// A script of calls and questions.
 pub(crate) type StepScript<K> = Script<K, Step, Answered>;
 
+/// A script for a caller, of the steps that are made for its number.
+fn script_of<K, S, A, F>(
+    alloc: Global,
+    caller: Caller<K>,
+    steps_of: &F,
+) -> anyhow::Result<Script<K, S, A>>
+where
+    K: TokenId,
+    S: Drop,
+    A: Drop,
+    F: Fn(u32) -> anyhow::Result<Vec<S>>,
+    requires { F.IsAlwaysCallable steps_of.now }
+{
+    let steps = steps_of(caller.number())?;
+    match Script::new(alloc, caller, steps) {
+        Ok(script) => Ok(script),
+        Err(_) => Err(NoMemory.into()),
+    }
+}
+
 /// A script for each of these callers, which it takes, of the steps that are made for its number.
 pub(crate) fn scripts_of<K, S, A, F>(
     alloc: Global,
@@ -28,10 +48,20 @@ where
 {
     let mut scripts = Vec::new(alloc);
     for caller in mem::replace(callers, Vec::new(alloc)) {
-        let steps = steps_of(caller.number())?;
-        scripts.push(Script::new(alloc, caller, steps).ok().ok_or(NoMemory)?)?;
+        scripts.push(script_of(alloc, caller, &steps_of)?)?;
     }
     Ok(scripts)
+}
+
+/// The callers of scripts come back.
+pub(crate) fn return_callers<K: TokenId, S: Drop, A: Drop>(
+    scripts: Vec<Script<K, S, A>>,
+    callers: &mut Vec<Caller<K>>,
+) -> Result<(), NoMemory> {
+    for script in scripts {
+        callers.push(script.caller)?;
+    }
+    Ok(())
 }
 
 /// The calls of lines.
@@ -63,19 +93,27 @@ pub(crate) fn check_taken<K: TokenId, S: Drop, A: Drop>(
     Ok(())
 }
 
-/// The callers of scripts come back. Gives the replies to each.
+/// The caller of a script comes back. Gives the replies to it.
 fn finish<K: TokenId>(
+    script: Script<K>,
+    callers: &mut Vec<Caller<K>>,
+) -> anyhow::Result<CallerReplies> {
+    check_taken(&script)?;
+    let (caller, replies) = script.into_parts();
+    let number = caller.number();
+    callers.push(caller)?;
+    Ok(CallerReplies { number, replies })
+}
+
+/// The callers of scripts come back. Gives the replies to each.
+fn finish_all<K: TokenId>(
     alloc: Global,
     scripts: Vec<Script<K>>,
     callers: &mut Vec<Caller<K>>,
 ) -> anyhow::Result<Vec<CallerReplies>> {
     let mut all = Vec::new(alloc);
     for script in scripts {
-        check_taken(&script)?;
-        let (caller, replies) = script.into_parts();
-        let number = caller.number();
-        all.push(CallerReplies { number, replies })?;
-        callers.push(caller)?;
+        all.push(finish(script, callers)?)?;
     }
     Ok(all)
 }
@@ -95,7 +133,7 @@ impl<'a, K: TokenId + Send + Sync, R: Runtime> Shared<'a, K, R> {
     {
         let (rt, alloc) = (self.rt, self.rt.alloc());
         let scripts = scripts_of(alloc, callers, calls_for)?;
-        finish(alloc, run_scripts(rt, alloc, gate, scripts), callers)
+        finish_all(alloc, run_scripts(rt, alloc, gate, scripts), callers)
     }
 
     /// The callers make their calls of a race by scripts. The bytes of a long message are taken in,

@@ -1,6 +1,6 @@
 //! What each caller of a shared token does in its thread: it makes its calls, and keeps the
 //! replies.
-use crate::drawing_callers::DrawingCaller;
+use crate::drawing_callers::make_drawn;
 use crate::gates::HeldGate;
 use crate::journals::CallerReplies;
 use crate::mix::{Handles, SETS};
@@ -23,14 +23,17 @@ pub(crate) enum SharedCalls<'a> {
     Drawn([Handles; SETS]),
 }
 
-/// Makes the calls of a caller among these lines, and gives the replies.
-fn make_own<K: TokenId, G: Gate<K>, W: Wait>(
+/// Makes the calls of a caller among these lines, each when it is the next one of the order. Gives
+/// the replies.
+fn make_ordered<'a, K: TokenId, G: Gate<K>, W: Wait>(
     rt: &W,
     alloc: Global,
-    gate: &G,
+    gate: &'a G,
     caller: &mut Caller<K>,
     lines: &[RaceLine],
+    order: &'a CallOrder<'a>,
 ) -> Result<Vec<Reply>, NoMemory> {
+    let gate = HeldGate::new(gate, order);
     let mut replies = Vec::new(alloc);
     for line in lines {
         if line.caller == caller.number() {
@@ -57,9 +60,9 @@ impl<'a, R: Wait + AllocGlobal> CallerWork<R> for SharedCalls<'a> {
         let (alloc, number) = (rt.alloc(), caller.number());
         let replies = match self {
             SharedCalls::Ordered { lines, order } => {
-                make_own(rt, alloc, &HeldGate::new(gate, order), caller, lines)?
+                make_ordered(rt, alloc, gate, caller, lines, order)?
             }
-            SharedCalls::Drawn(sets) => DrawingCaller::new(rt, alloc, gate, caller, sets).make()?,
+            SharedCalls::Drawn(sets) => make_drawn(rt, alloc, gate, caller, sets)?,
         };
         Ok(CallerReplies { number, replies })
     }

@@ -1,9 +1,9 @@
 //! A token that is shared until it is taken back, and what is done with its callers meanwhile.
 ghost use Rattle.std.specs.Prelude.{◌≡◌, ◌≤◌, ℕ, IfErr};
-ghost use Rattle.ck_journal.specs.Histories.{start, start_of};
-ghost use Rattle.ck_callers.specs.Accounts.{name_of};
+ghost use Rattle.ck_token.specs.Histories.{start, start_of};
+ghost use Rattle.ck_shared.specs.Accounts.{name_of};
 
-use crate::journals::{CallerReplies, check_number};
+use crate::journals::{CallerReplies, check_audit, check_number};
 use crate::orders::CallOrder;
 use crate::races::Race;
 use anyhow::{Context, bail, ensure};
@@ -130,7 +130,7 @@ impl<'a, K: TokenId, R: Runtime> Shared<'a, K, R> {
     }
 
     /// The first caller makes short calls, so that what comes then has a long history.
-    fn make_short_calls(&self, callers: &mut [Caller<K>]) -> anyhow::Result<()> {
+    pub(crate) fn make_short_calls(&self, callers: &mut [Caller<K>]) -> anyhow::Result<()> {
         let caller = callers.first_mut().context("a caller is missing")?;
         for _ in 0..SHORT_CALLS {
             self.make_call(caller, Call::GetTokenInfo)?;
@@ -161,15 +161,8 @@ impl<'a, K: TokenId, R: Runtime> Shared<'a, K, R> {
             SharedWork::EightScripts => outcome.replies = self.run_eight(callers)?,
             SharedWork::CallsUnderLock => self.call_under_lock(callers)?,
             SharedWork::CallBesideLock => outcome.replies = self.call_beside_lock(callers)?,
-            SharedWork::LongMessages => {
-                self.make_short_calls(callers)?;
-                self.take_in_messages(callers)?;
-                self.add_messages(callers)?;
-            }
-            SharedWork::CallsBehindCalls => {
-                self.make_short_calls(callers)?;
-                self.make_calls_behind(callers)?;
-            }
+            SharedWork::LongMessages => self.add_long_messages(callers)?,
+            SharedWork::CallsBehindCalls => self.make_calls_behind(callers)?,
         }
         Ok(outcome)
     }
@@ -248,15 +241,29 @@ pub(crate) fn share_with<R: Runtime>(
     }
 }
 
+/// As `share_with`. The token's journal is audited then. Says how many entries it has.
+pub(crate) fn share_audited<R: Runtime>(
+    rt: R,
+    token: Token,
+    callers: u32,
+    work: &SharedWork,
+) -> anyhow::Result<(Outcome, u64)>
+    requires history { token.history ≡ start (start_of token.history) }
+    requires callers { (1 ≤ callers) × (callers ≤ 8) }
+{
+    let (token, outcome) = share_with(rt, token, callers, work)?;
+    let entries = check_audit(rt.alloc(), &token)?;
+    Ok((outcome, entries))
+}
+
 /// Shares a new token between two callers, does the work and takes the token back. Says what that
 /// takes of the processor, too.
 pub(crate) fn share_timed<R: CpuClock + Runtime>(
     rt: R,
     work: &SharedWork,
-) -> anyhow::Result<(Duration, Token, Outcome)> {
-    let token = Token::new(rt.alloc(), Limits::largest());
+) -> anyhow::Result<(Duration, Returned)> {
     let before = rt.process_cpu_time()?;
-    let (token, outcome) = share_with(rt, token, 2, work)?;
-    let time = rt.process_cpu_time()?.saturating_sub(before);
-    Ok((time, token, outcome))
+    let returned = share_with(rt, Token::new(rt.alloc(), Limits::largest()), 2, work)?;
+    let after = rt.process_cpu_time()?;
+    Ok((after.saturating_sub(before), returned))
 }

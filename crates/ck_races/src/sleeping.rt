@@ -5,7 +5,7 @@ use crate::journals::{CallerReplies, check_audit, check_replies};
 use crate::shared_work::{Shared, SharedWork, share_timed};
 use anyhow::{bail, ensure};
 use ck_shared::{Caller, Runtime, TokenId};
-use ck_token::Call;
+use ck_token::{Call, Token};
 use std::alloc::Global;
 use std::time::{CpuClock, Duration};
 
@@ -34,17 +34,24 @@ impl<'a, K: TokenId + Send + Sync, R: Runtime> Shared<'a, K, R> {
     }
 }
 
-/// Makes the calls on a new token. Says how much processor time that takes, and how many calls they
-/// are.
-fn time_calls<R: CpuClock + Runtime>(rt: R) -> anyhow::Result<(Duration, u64)> {
-    let (time, token, outcome) = share_timed(rt, &SharedWork::CallBesideLock)?;
+/// The callers had the lock in their order, and got the replies of their entries. Says how many
+/// entries there are.
+fn check_calls(alloc: Global, token: &Token, replies: Vec<CallerReplies>) -> anyhow::Result<u64> {
     let journal = token.journal();
     ensure!(
         journal.iter().map(|entry| entry.caller).eq([1, 2]),
         "the entries aren't in the order in which the callers had the lock",
     );
-    check_replies(journal, outcome.replies)?;
-    Ok((time, check_audit(rt.alloc(), &token)?))
+    check_replies(journal, replies)?;
+    check_audit(alloc, token)
+}
+
+/// Makes the calls on a new token. Says how much processor time that takes, and how many calls they
+/// are.
+fn time_calls<R: CpuClock + Runtime>(rt: R) -> anyhow::Result<(Duration, u64)> {
+    let (time, (token, outcome)) = share_timed(rt, &SharedWork::CallBesideLock)?;
+    let calls = check_calls(rt.alloc(), &token, outcome.replies)?;
+    Ok((time, calls))
 }
 
 /// Makes the calls, until they take as little processor time as they must. Says how many there are.

@@ -1,6 +1,6 @@
 //! Tokens before they are shared, and calls that are made without sharing one.
 ghost use Rattle.std.specs.Prelude.{◌≡◌, IfOk};
-ghost use Rattle.ck_journal.specs.Histories.{start, start_of};
+ghost use Rattle.ck_token.specs.Histories.{start, start_of};
 
 use crate::races::{Race, RaceLine, compare, line_in};
 use ck_token::{Limits, Token};
@@ -24,38 +24,48 @@ pub(crate) fn make_calls(
     Ok(())
 }
 
+/// Makes calls, and cuts the journal.
+fn make_and_cut(alloc: Global, token: &mut Token, lines: &[RaceLine]) -> anyhow::Result<()>
+    ensures { IfOk result (λ _. token.new.history ≡ start (start_of token.new.history)) }
+{
+    make_calls(alloc, token, lines)?;
+    token.cut(alloc)?;
+    Ok(())
+}
+
+/// A token on which calls were made, and whose journal was cut.
+fn token_after(alloc: Global, limits: Limits, lines: &[RaceLine]) -> anyhow::Result<Token>
+    ensures { IfOk result (λ token. token.history ≡ start (start_of token.history)) }
+{
+    let mut token = Token::new(alloc, limits);
+    make_and_cut(alloc, &mut token, lines)?;
+    Ok(token)
+}
+
 /// A token of a race, on which the calls before its cut were made.
 pub(crate) fn prepared_token(alloc: Global, race: &Race) -> anyhow::Result<Token>
     ensures { IfOk result (λ token. token.history ≡ start (start_of token.history)) }
 {
-    let mut token = Token::new(alloc, race.limits);
-    make_calls(alloc, &mut token, &race.earlier)?;
-    token.cut(alloc)?;
-    Ok(token)
+    token_after(alloc, race.limits, &race.earlier)
 }
 
-/// Makes the calls of texts one after the other.
-pub(crate) fn make_calls_of(
-    alloc: Global,
-    token: &mut Token,
-    lines: &[&str],
-) -> anyhow::Result<()> {
+/// The calls of texts.
+pub(crate) fn lines_in<'a>(alloc: Global, texts: &[&'a str]) -> anyhow::Result<Vec<RaceLine<'a>>> {
+    let mut lines = Vec::new(alloc);
     let mut number = 0u64;
-    for text in lines {
+    for text in texts {
         number = number.saturating_add(1);
-        make_call(alloc, token, &line_in(alloc, number, text)?)?;
+        lines.push(line_in(alloc, number, text)?)?;
     }
-    Ok(())
+    Ok(lines)
 }
 
 /// A token on which the calls of these texts were made, and whose journal was cut.
-pub(crate) fn cut_token(alloc: Global, lines: &[&str]) -> anyhow::Result<Token>
+pub(crate) fn cut_token(alloc: Global, texts: &[&str]) -> anyhow::Result<Token>
     ensures { IfOk result (λ token. token.history ≡ start (start_of token.history)) }
 {
-    let mut token = Token::new(alloc, Limits::largest());
-    make_calls_of(alloc, &mut token, lines)?;
-    token.cut(alloc)?;
-    Ok(token)
+    let lines = lines_in(alloc, texts)?;
+    token_after(alloc, Limits::largest(), &lines)
 }
 
 /// A token that is initialized, and whose journal was cut.

@@ -5,7 +5,7 @@ ghost use Rattle.std.specs.Prelude.{◌≡◌};
 
 use crate::journals::{check_audit, check_entries, check_replies, in_order_of_callers};
 use crate::orders::CallOrder;
-use crate::races::races_in;
+use crate::races::{RaceLine, races_in};
 use crate::shared_calls::SharedCalls;
 use anyhow::{Context, ensure};
 use ck_shared::{Runtime, share};
@@ -114,20 +114,8 @@ impl JournaledToken for WatchedToken {
     }
 }
 
-/// Makes the calls on a new token. Says how many there are.
-pub(crate) fn run_watched<R: Runtime>(rt: R) -> anyhow::Result<u64> {
-    let alloc = rt.alloc();
-    let races = races_in(alloc, CALLS)?;
-    let race = races.first().context("the calls are missing")?;
-    let order = CallOrder::new(&[]);
-    let calls = SharedCalls::Ordered {
-        lines: &race.lines,
-        order: &order,
-    };
-    let mut token = WatchedToken::new(alloc, Limits::largest());
-    let all = share(rt, alloc, &mut token, 1, &calls)?;
-    check_replies(token.journal(), in_order_of_callers(alloc, all)?)?;
-    check_entries(alloc, &race.lines, token.journal())?;
+/// The token was used as it must be.
+fn check_uses(token: &WatchedToken) -> anyhow::Result<()> {
     let begun = token.works.load(Ordering::SeqCst);
     ensure!(
         begun == LONG_CALLS,
@@ -141,5 +129,36 @@ pub(crate) fn run_watched<R: Runtime>(rt: R) -> anyhow::Result<u64> {
     // Once where the token is shared, and by the two calls that may change the board.
     let read = token.boards.load(Ordering::SeqCst);
     ensure!(read == 3, "the board isn't read exactly three times");
+    Ok(())
+}
+
+/// Makes these calls on a token. Says how many there are.
+fn make_calls<R: Runtime>(
+    rt: R,
+    token: &mut WatchedToken,
+    lines: &[RaceLine],
+) -> anyhow::Result<u64> {
+    let alloc = rt.alloc();
+    let order = CallOrder::new(&[]);
+    let calls = SharedCalls::Ordered {
+        lines,
+        order: &order,
+    };
+    let all = share(rt, alloc, token, 1, &calls)?;
+    check_replies(token.journal(), in_order_of_callers(alloc, all)?)?;
+    check_entries(alloc, lines, token.journal())?;
+    check_uses(token)?;
     check_audit(alloc, &token.token)
+}
+
+/// Makes the calls on a new token. Says how many there are.
+pub(crate) fn run_watched<R: Runtime>(rt: R) -> anyhow::Result<u64> {
+    let alloc = rt.alloc();
+    let races = races_in(alloc, CALLS)?;
+    let race = races.first().context("the calls are missing")?;
+    make_calls(
+        rt,
+        &mut WatchedToken::new(alloc, Limits::largest()),
+        &race.lines,
+    )
 }

@@ -74,8 +74,11 @@ impl<K: TokenId, G: JournaledToken, R: Wait + Drop> SharedToken<K, G, R> {
         requires history { (G.state token).history ≡ start K.base }
         requires limits { (G.state token).limits ≡ K.limits }
         requires callers { (1 ≤ callers) × (callers ≤ 8) × (callers ≡ K.callers) }
+
+        // `K` stands for the names of this identity.
         requires book { identity.history.seen.book ≡ K.book }
         requires ledgers { (n : ℕ) → K.ledger n ≡ name_of identity.ledgers n }
+
         ensures callers { IfOk result (λ ends. ends.callers.items ≡ new_callers K.base callers) }
         ensures token { IfErr result (λ refused. refused.0 ≡ token) }
     {

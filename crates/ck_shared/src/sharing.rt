@@ -38,7 +38,7 @@ pub trait CallerWork<R> {
 fn show_number<K: TokenId, R: Runtime>(rt: &R, caller: &Caller<K>, number: u32)
     ensures { caller.now.number ≡ number }
 {
-    // The first pass returns: a work is over any `K`, so it can't put another caller in this one's
+    // The first pass returns: `act` is over any `K`, so it can't put another caller in this one's
     // place. No contract says so.
     for _ in rt.forever() {
         if caller.number() == number {
@@ -184,8 +184,8 @@ fn share_as<
 
 /// Shares a token among the callers 1 to `callers`, at most eight, until each has done its work in
 /// a thread of its own. The token's journal must have no entries. Gives the outputs in the order of
-/// the callers. Where no thread can be made, the works run one after the other, so works that wait
-/// for one another may hang. Where memory runs out, some callers may have done nothing.
+/// the callers. Where no thread can be made, each does its work after the one before, so callers
+/// that wait for one another may hang. Where memory runs out, some callers may have done nothing.
 pub fn share<T: JournaledToken + Send, W: CallerWork<R> + Sync, R: Runtime>(
     rt: R,
     alloc: Global,

@@ -1,3 +1,4 @@
+-- what the contracts of a program that uses a token speak of
 pub use Rattle.ck_journal.specs.Answers
 pub use Rattle.ck_journal.specs.Histories
 pub use Rattle.ck_journal.specs.Objects

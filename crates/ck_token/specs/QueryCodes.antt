@@ -1,4 +1,5 @@
--- Which code of the queries of one C_GetAttributeValue call is answered
+-- How the code finds which code is answered to the queries of one C_GetAttributeValue call. This
+-- mirrors the code; the definition is `queries_code` of ck_journal.
 use Rattle.std.specs.Prelude.{ℕ, nat_lt, if◌then◌else◌}
 use Rattle.ck_types.specs.declared.return_codes.Rv.{Rv}
 use Rattle.ck_types.specs.declared.return_codes.Rv.TheVariants as rv

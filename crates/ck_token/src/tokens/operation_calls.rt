@@ -258,7 +258,7 @@ impl Token {
         check_key_state(kind, attributes)
     }
 
-    /// The session's active operation, where it may take in this message as its single part.
+    /// The session's active operation, where this may be its message, in a single part.
     /// Checks: those of `check_active`, CKR_OPERATION_NOT_INITIALIZED (91) where there was an
     /// update, CKR_DATA_LEN_RANGE (21), those of `check_present_key`.
     fn check_single_part(

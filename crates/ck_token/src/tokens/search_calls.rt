@@ -74,14 +74,14 @@ impl Token {
     {
         let view = self.view();
         let mut handles = Vec::new(alloc);
-        let mut room = max;
+        let mut left = max;
         for number in numbers {
-            if room == 0 {
+            if left == 0 {
                 break;
             }
             if let Some(handle) = self.parts.objects.handle(view, *number) {
                 handles.push(handle)?;
-                room -= 1;
+                left -= 1;
             }
         }
         Ok(handles)

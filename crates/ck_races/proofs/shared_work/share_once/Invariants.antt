@@ -1,5 +1,5 @@
-use Rattle.ck_journal.specs.Histories.{start_of}
-use Rattle.ck_callers.specs.Accounts.{name_of}
+use Rattle.ck_token.specs.Histories.{start_of}
+use Rattle.ck_shared.specs.Accounts.{name_of}
 use Rattle.ck_races.proofs.shared_work.share_once.Given as goal
 
 -- the token that is given

@@ -17,17 +17,17 @@ loop-number-preserved c =
       | in-Some+in_ok-push w ↦
           given-next h (next h c.args.max c.args.numbers.now) c.loop-number.handles.items
           c.args.numbers.now
-          c.loop-number.number-index c.loop-number.room is c.loop-number-test.true
-          c.match-handle.handles.items c.match-handle.room w.in-Some.handle c.if-room-eq0.false
+          c.loop-number.number-index c.loop-number.left is c.loop-number-test.true
+          c.match-handle.handles.items c.match-handle.left w.in-Some.handle c.if-left-eq0.false
           (w.in-Some.ensures h agree view)
           (ap (λ v. v.items) w.handles-is ∙ w.in_ok-push.ensures.items)
-          w.room-is
+          w.left-is
       | in_default w ↦
           passed-next h (next h c.args.max c.args.numbers.now) c.loop-number.handles.items
           c.args.numbers.now
-          c.loop-number.number-index c.loop-number.room is c.loop-number-test.true
-          c.match-handle.handles.items c.match-handle.room (w.in_default.ensures h agree view)
-          (ap (λ v. v.items) w.handles-is) w.room-is
+          c.loop-number.number-index c.loop-number.left is c.loop-number-test.true
+          c.match-handle.handles.items c.match-handle.left (w.in_default.ensures h agree view)
+          (ap (λ v. v.items) w.handles-is) w.left-is
     ])
 
 pub loop-number-init : goal.loop-number-init
@@ -43,7 +43,7 @@ returns-in_err-push-clause-memory c =
     let view = rw (← c.self.view_is) at c.view-view.ensures.view in
     let is = rw (← c.self.view_is) at c.loop-number.invariant in
     let given = some-given h (next h c.args.max c.args.numbers.now) c.loop-number.handles.items
-    c.args.numbers.now c.loop-number.number-index c.loop-number.room is c.loop-number-test.true
-    c.in-Some.handle c.if-room-eq0.false (c.in-Some.ensures h agree view) in
+    c.args.numbers.now c.loop-number.number-index c.loop-number.left is c.loop-number-test.true
+    c.in-Some.handle c.if-left-eq0.false (c.in-Some.ensures h agree view) in
     let some = sym (same-empty (handle_of h) _) ∙ given in
     on-err c.from_residual.result (rw (← c.self.view_is) some)

@@ -6,4 +6,4 @@ use Rattle.ck_token.proofs.tokens.Token.visible_handles.Given as goal
 abbrev pub invariant-loop-number : goal.invariant-loop-number
 invariant-loop-number l =
     next l.self.history l.max l.numbers
-    ≡ l.handles.items ++ next l.self.history l.room (drop l.number-index l.numbers)
+    ≡ l.handles.items ++ next l.self.history l.left (drop l.number-index l.numbers)
