@@ -1,7 +1,8 @@
-//! A caller that draws its calls.
+//! Callers that draw their calls.
+use crate::journals::CallerReplies;
 use crate::mix::{Handles, LONG, ROWS, SELDOM, SETS, call_of};
 use anyhow::ensure;
-use ck_shared::{Ask, Caller, Gate, TokenId};
+use ck_shared::{Ask, Caller, CallerWork, Gate, TokenId};
 use ck_token::{Body, Reply, Rv};
 use rand_core::{Rng, SeedableRng};
 use rand_xoshiro::Xoshiro256PlusPlus;
@@ -121,8 +122,8 @@ impl<'a, 'c, K: TokenId, G: Gate<K>, R: Wait> DrawingCaller<'a, 'c, K, G, R> {
 }
 
 /// Makes the drawn calls of a caller at a gate, with these sets of handles. Gives the replies.
-// A function, so that what the caller holds is lent for one time.
-pub(crate) fn make_drawn<'a, K: TokenId, G: Gate<K>, R: Wait>(
+// A function, since the borrow checker wants one lifetime for what the caller holds.
+fn make_drawn<'a, K: TokenId, G: Gate<K>, R: Wait>(
     rt: &'a R,
     alloc: Global,
     gate: &'a G,
@@ -130,4 +131,28 @@ pub(crate) fn make_drawn<'a, K: TokenId, G: Gate<K>, R: Wait>(
     sets: &'a [Handles; SETS],
 ) -> anyhow::Result<Vec<Reply>> {
     DrawingCaller::new(rt, alloc, gate, caller, sets).make()
+}
+
+/// Drawn calls of callers, which know these handles between them.
+#[derive(Drop)]
+pub(crate) struct DrawnCalls(pub(crate) [Handles; SETS]);
+
+impl<R: Wait + AllocGlobal> CallerWork<R> for DrawnCalls {
+    ghost use Rattle.std.specs.Prelude.{⊤};
+
+    type Output = anyhow::Result<CallerReplies>;
+
+    ghost holds = { λ work before after replies. ⊤ };
+
+    /// The draws follow from the caller's number.
+    fn act<K: TokenId, G: Gate<K>>(
+        &self,
+        rt: &R,
+        gate: &G,
+        caller: &mut Caller<K>,
+    ) -> Self::Output {
+        let number = caller.number();
+        let replies = make_drawn(rt, rt.alloc(), gate, caller, &self.0)?;
+        Ok(CallerReplies { number, replies })
+    }
 }

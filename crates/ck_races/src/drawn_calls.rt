@@ -1,9 +1,9 @@
 //! Eight callers in threads of their own make drawn calls of one token at once, until each has made
 //! its number. Then the token is taken back, and its journal is audited and compared with what each
 //! caller got.
+use crate::drawing_callers::DrawnCalls;
 use crate::journals::{CallerReplies, check_audit, check_replies, in_order_of_callers};
 use crate::mix::Handles;
-use crate::shared_calls::SharedCalls;
 use crate::tokens::cut_token;
 use anyhow::ensure;
 use ck_shared::{Runtime, share};
@@ -47,7 +47,7 @@ fn check_drawn(
 pub(crate) fn make_drawn_calls<R: Runtime>(rt: R) -> anyhow::Result<u64> {
     let alloc = rt.alloc();
     let mut token = cut_token(alloc, &FIRST_CALLS)?;
-    let work = SharedCalls::Drawn([
+    let work = DrawnCalls([
         Handles::new(),
         Handles::new(),
         Handles::new(),

@@ -180,9 +180,9 @@ pub(crate) fn line_in<'a>(
 /// Adds what a line says to the races.
 fn add_line<'a>(
     alloc: Global,
-    races: &mut Vec<Race<'a>>,
     number: u64,
     text: &'a str,
+    races: &mut Vec<Race<'a>>,
 ) -> anyhow::Result<()> {
     if text == "race" {
         races.push(Race::new(alloc, number))?;
@@ -214,7 +214,7 @@ pub(crate) fn races_in<'a>(alloc: Global, text: &'a str) -> anyhow::Result<Vec<R
     for text in text.lines() {
         number = number.saturating_add(1);
         if !text.is_empty() && !text.starts_with('#') {
-            add_line(alloc, &mut races, number, text)?;
+            add_line(alloc, number, text, &mut races)?;
         }
     }
     check_races(&races)?;

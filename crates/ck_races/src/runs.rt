@@ -2,9 +2,9 @@
 use crate::journals::{
     CallerReplies, check_audit, check_replies, check_token, in_order_of_callers,
 };
+use crate::ordered_calls::OrderedCalls;
 use crate::orders::{CallOrder, reorder};
 use crate::races::Race;
-use crate::shared_calls::SharedCalls;
 use crate::shared_work::{SharedWork, share_with};
 use crate::tokens::{make_calls, prepared_token};
 use anyhow::ensure;
@@ -45,7 +45,7 @@ fn share_race<R: Runtime>(
 ) -> anyhow::Result<u64> {
     let alloc = rt.alloc();
     let order = CallOrder::new(callers);
-    let calls = SharedCalls::Ordered {
+    let calls = OrderedCalls {
         lines: &race.lines,
         order: &order,
     };

@@ -21,15 +21,17 @@ fn calls_of(alloc: Global) -> anyhow::Result<Vec<Call>> {
     Ok(vec![in alloc; Call::GetTokenInfo]?)
 }
 
-impl<'a, K: TokenId + Send + Sync, R: Runtime> Shared<'a, K, R> {
+impl<'a, K: TokenId, R: Runtime> Shared<'a, K, R> {
     /// Two callers make a call each, the first one under a lock that it holds for long. Gives the
     /// replies to each.
     pub(crate) fn call_beside_lock(
         &self,
         callers: &mut Vec<Caller<K>>,
-    ) -> anyhow::Result<Vec<CallerReplies>> {
-        let alloc = self.rt.alloc();
-        let gate = HoldingGate::new(self.token);
+    ) -> anyhow::Result<Vec<CallerReplies>>
+    where
+        K: Send + Sync,
+    {
+        let (alloc, gate) = (self.rt.alloc(), HoldingGate::new(self.token));
         self.run_at(&gate, callers, |_| calls_of(alloc))
     }
 }

@@ -4,9 +4,9 @@
 ghost use Rattle.std.specs.Prelude.{◌≡◌};
 
 use crate::journals::{check_audit, check_entries, check_replies, in_order_of_callers};
+use crate::ordered_calls::OrderedCalls;
 use crate::orders::CallOrder;
 use crate::races::{RaceLine, races_in};
-use crate::shared_calls::SharedCalls;
 use anyhow::{Context, ensure};
 use ck_shared::{Runtime, share};
 use ck_token::{
@@ -140,7 +140,7 @@ fn make_calls<R: Runtime>(
 ) -> anyhow::Result<u64> {
     let alloc = rt.alloc();
     let order = CallOrder::new(&[]);
-    let calls = SharedCalls::Ordered {
+    let calls = OrderedCalls {
         lines,
         order: &order,
     };
