@@ -46,7 +46,7 @@ FEW_CALLS = 1_000
 
 # Scripts that run the right program, except where something is given or comes that is so in one
 # test only: callers in threads, a line that fills the longest one, a long parameter, a reply with
-# many handles or many answers, many calls, and a packet.
+# many handles or many answers, many calls, a packet, and memory.
 NO_ROOM = '{ echo "ck_run: out of memory" >&2; exit 3; }'
 WITH_INPUT = ('right=$1; input=$(mktemp); trap \'rm "$input"\' EXIT; cat > "$input"; '
               f'%s || {NO_ROOM}; "$right" < "$input"')
@@ -59,6 +59,7 @@ WRONG_FOR_ONE = [
       for front in ("^0 1,2,", "^0 :0,:0,")),
     (program.long_history, f'head -n {5 * FEW_CALLS} | "$1"'),
     (program.packets, 'right=$1; shift; dd bs=64 status=none | "$right" "$@"'),
+    (program.memory, f'ulimit -v {program.ROOM_OF_CREATED // 1_536}; {RIGHT}'),
 ]
 
 # The tests of each program, with the class that keeps what comes of them.
@@ -85,7 +86,7 @@ SILENT = {
                                    races.bad_lines, races.bad_files],
     "nothing on standard error": [program.dialogue, program.long_lists, program.long_replies,
                                   program.long_history, program.packets, program.side_by_side,
-                                  program.many_changes, program.seldom_asleep,
+                                  program.many_changes, program.memory, program.seldom_asleep,
                                   recorded_runs.reports,
                                   recorded_runs.limits_of_first_case, recorded_runs.long_texts,
                                   races.whole_file, races.set_orders, rules.attributes,

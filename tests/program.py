@@ -118,6 +118,11 @@ EACH_CALL = [
     ("InitToken 31323334", "0"),
 ]
 
+# How many objects are created, each with a label of eight bytes, and the room for them: by
+# docs/architecture.md some 540 bytes for each with the entry of its creation, and a fifth more.
+MANY_CREATED = 130_000
+ROOM_OF_CREATED = MANY_CREATED * 540 * 6 // 5
+
 # The bytes of a packet that one read takes whole.
 PACKET = 16_384
 
@@ -553,6 +558,20 @@ def audits(tests):
     tests.end("the journal of callers is audited, and an audit finds no memory for many objects")
 
 
+def memory(tests):
+    """Objects and entries take no more memory than the page says. A token of which the journal
+    takes twice as much has too little room here."""
+    def leave_room():
+        resource.setrlimit(resource.RLIMIT_AS, (ROOM_OF_CREATED, ROOM_OF_CREATED))
+
+    numbers = range(1, MANY_CREATED + 1)
+    calls = [f"1 CreateObject 1 0=0000000000000000,3={number:016x}" for number in numbers]
+    script = "\n".join(["1 InitToken 31323334", "1 OpenSession 6", *calls]).encode()
+    replies = "".join(["0\n", "0 1\n", *(f"0 {number}\n" for number in numbers)]).encode()
+    tests.check([], script, replies, *PLAYED, preexec_fn=leave_room)
+    tests.end("the memory of objects and of entries")
+
+
 def many_changes(tests):
     """What a shared token takes for each call that changes sessions or logins it gives back."""
     count = 50_000
@@ -664,6 +683,7 @@ def main(program):
     packets(tests)
     callers(tests)
     audits(tests)
+    memory(tests)
     many_changes(tests)
     side_by_side(tests)
     seldom_asleep(tests)
