@@ -41,6 +41,7 @@ OF_NO_CLAUSE = re.compile(r"(?:invariant|overflow|nonzero|\w*bounds)|.+-returns\
 # Edits that are refused elsewhere, though each breaks its clause, too: the goal, and why it comes
 # first. Where it is the answer that no longer fits, the goal may be true.
 INVARIANT = "what is answered of the type's invariant doesn't fit, and that is looked at first"
+ALIKE = "a lemma of cuts goes by the form of this definition, and it is looked at before the law"
 ELSEWHERE = {
     "ck_callers/a_caller_does_not_see_its_own_reply": ("invariant_of-self", INVARIANT),
     "ck_callers/a_caller_keeps_its_reply_before": ("invariant_of-self", INVARIANT),
@@ -53,6 +54,14 @@ ELSEWHERE = {
         "scope-returns", "the closure in which the scripts are put together is looked at first"),
     "ck_foreign/work_that_is_not_done_is_used": (
         "call_after-requires", "the body breaks what it calls, and no clause of its own before"),
+    "ck_journal/definition_of_cuts_unlocks_the_security_officer": ("base_tries-same", ALIKE),
+    "ck_journal/definition_of_destructions_passes_over_read_only_sessions": (
+        "call_error-alike", ALIKE),
+    "ck_journal/definition_of_final_signing_passes_over_the_state": ("call_error-alike", ALIKE),
+    "ck_journal/definition_of_placement_passes_over_read_only_sessions": (
+        "placement-alike", ALIKE),
+    "ck_journal/definition_of_searches_begins_again": ("search_rest-alike", ALIKE),
+    "ck_journal/definition_of_searches_returns_numbers": ("allowed-alike", ALIKE),
     "ck_shared/calls_are_those_of_the_first_caller": (
         "extend-requires-clause-next", "the history is made longer by the entry before the end"),
     "ck_store/objects_are_lost_where_memory_ends": (

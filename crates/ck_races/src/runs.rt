@@ -1,4 +1,7 @@
 //! Runs of a race by callers in threads, with all calls in order and with only the first ones.
+ghost use Rattle.std.specs.Prelude.{◌≡◌};
+ghost use Rattle.ck_token.specs.Histories.{start, start_of};
+
 use crate::journals::{
     CallerReplies, check_audit, check_replies, check_token, in_order_of_callers,
 };
@@ -42,7 +45,9 @@ fn share_race<R: Runtime>(
     token: &mut Token,
     race: &Race,
     callers: &[u32],
-) -> anyhow::Result<u64> {
+) -> anyhow::Result<u64>
+    requires history { token.old.history ≡ start (start_of token.old.history) }
+{
     let alloc = rt.alloc();
     let order = CallOrder::new(callers);
     let calls = OrderedCalls {

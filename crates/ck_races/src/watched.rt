@@ -2,6 +2,7 @@
 //! work, the bytes of a long message are taken in before its call and not once more in it, and only
 //! a call that may change the board reads it.
 ghost use Rattle.std.specs.Prelude.{◌≡◌};
+ghost use Rattle.ck_token.specs.Histories.{start, start_of};
 
 use crate::journals::{check_audit, check_entries, check_replies, in_order_of_callers};
 use crate::ordered_calls::OrderedCalls;
@@ -137,7 +138,9 @@ fn make_calls<R: Runtime>(
     rt: R,
     token: &mut WatchedToken,
     lines: &[RaceLine],
-) -> anyhow::Result<u64> {
+) -> anyhow::Result<u64>
+    requires history { token.old.token.history ≡ start (start_of token.old.token.history) }
+{
     let alloc = rt.alloc();
     let order = CallOrder::new(&[]);
     let calls = OrderedCalls {
