@@ -22,7 +22,7 @@ pub enum Verdict {
 /// Audits a journal: starts a token of these limits from its base, makes the calls again and
 /// compares each reply. It takes memory for that token and its journal, and time for each entry.
 /// Which kind of token it is makes no difference to what is found.
-pub fn audit<G: JournaledToken>(
+pub fn audit<T: JournaledToken>(
     alloc: Global,
     journal: &Journal,
     limits: Limits,
@@ -33,33 +33,33 @@ pub fn audit<G: JournaledToken>(
         → (found ≡ verdict.Wrong number) ↔ IsFirstWrong limits journal.now.history number) }
 {
     let base = journal.base().clone()?;
-    let token = G::from_base(alloc, limits, base)?;
+    let token = T::from_base(alloc, limits, base)?;
     replay(alloc, token, journal)
 }
 
 /// Audits a token's journal under the token's own limits. It is always found legal.
-pub fn audit_token<G: JournaledToken>(alloc: Global, token: &G) -> Result<Verdict, NoMemory>
+pub fn audit_token<T: JournaledToken>(alloc: Global, token: &T) -> Result<Verdict, NoMemory>
     ensures { IfOk result (λ found. found ≡ verdict.Legal) }
 {
-    audit::<G>(alloc, token.journal(), token.limits())
+    audit::<T>(alloc, token.journal(), token.limits())
 }
 
 /// Makes the call of an entry, and says whether it is answered as the entry has it.
-fn repeat_call<G: JournaledToken>(
-    token: &mut G,
+fn repeat_call<T: JournaledToken>(
+    token: &mut T,
     alloc: Global,
     entry: &Entry,
 ) -> Result<bool, NoMemory>
     ensures same { IfOk result (λ same. IsTrue same
         ↔ (entry.now.reply
-        ≡ answer (G.state token.old).limits (G.state token.old).history entry.now.call)) }
+        ≡ answer (T.state token.old).limits (T.state token.old).history entry.now.call)) }
     ensures entered { IfOk result (λ same. IsTrue same
-        → (G.state token.new).history ≡ entry.now ◁ (G.state token.old).history) }
-    ensures count { OnOk result (entry_count (G.state token.new).history
-        ≡ entry_count (G.state token.old).history + 1) }
-    ensures limits { OnOk result ((G.state token.new).limits ≡ (G.state token.old).limits) }
+        → (T.state token.new).history ≡ entry.now ◁ (T.state token.old).history) }
+    ensures count { OnOk result (entry_count (T.state token.new).history
+        ≡ entry_count (T.state token.old).history + 1) }
+    ensures limits { OnOk result ((T.state token.new).limits ≡ (T.state token.old).limits) }
     ensures legal { OnOk result
-        (IsLegal (G.state token.new).limits (G.state token.new).history) }
+        (IsLegal (T.state token.new).limits (T.state token.new).history) }
 {
     let call = entry.call.clone()?;
     let reply = token.call(alloc, entry.caller, call)?;
@@ -68,14 +68,14 @@ fn repeat_call<G: JournaledToken>(
 
 /// Makes the calls of a journal on a token that starts from its base, up to the first that is
 /// answered otherwise.
-fn replay<G: JournaledToken>(
+fn replay<T: JournaledToken>(
     alloc: Global,
-    mut token: G,
+    mut token: T,
     journal: &Journal,
 ) -> Result<Verdict, NoMemory>
-    requires { (G.state token).history ≡ start (start_of journal.now.history) }
+    requires { (T.state token).history ≡ start (start_of journal.now.history) }
     ensures { IfOk result (λ found.
-        IsVerdict (G.state token).limits journal.now.history found) }
+        IsVerdict (T.state token).limits journal.now.history found) }
 {
     for entry in journal.iter() {
         if !repeat_call(&mut token, alloc, entry)? {

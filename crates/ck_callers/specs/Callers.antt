@@ -63,8 +63,8 @@ abbrev pub are_all : ℕ → List CallerState → Bool
 are_all zero callers = true
 are_all (suc n) callers = list_any (λ c. c.number == suc n) callers && are_all n callers
 
--- what the caller knows is a front of the history, which has no other entries of the caller than
--- the replies that it was given
+-- what the caller knows is a front of the history, whose entries of the caller are those of its
+-- answered calls
 pub record IsSettled (h : History) (c : CallerState) : Type 0 where
   pub front : IsFront c.seen h
   pub count : call_count c.number h ≡ c.count

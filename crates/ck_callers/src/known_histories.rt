@@ -19,7 +19,8 @@ const CALLERS: usize = MOST_CALLERS as usize;
 pub struct KnownHistory<K: TokenId> {
     front: Front<K>,
     changed: Front<K>,
-    /// Only a comparison in `look` reads these counts. It tells the prover that they stay.
+    /// Read only in `look`, by a comparison that tells the prover that the history has no other
+    /// entries of the caller.
     calls: [u64; CALLERS],
 }
 

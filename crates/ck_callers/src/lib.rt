@@ -1,6 +1,7 @@
 //! The callers of a token that threads share: one history for all of them, of which each knows a
-//! front; how many calls of each were answered; the board that callers read without the lock; and
-//! runs of callers through a gate, each in a thread of its own.
+//! front (a beginning); the books, which count each caller's answered calls; the board, a copy of
+//! the state that callers read without the lock; and runs of callers, each in a thread of its own,
+//! through a gate (what answers their calls).
 //!
 //! Only ck_shared uses these, for what lies under the lock: `Front`, `Head`, `KnownHistory`,
 //! `CallBooks`, `BoardSlot`, `BoardCopy`, `CallerCount`, `Opened` and `Account`, and of `Caller`

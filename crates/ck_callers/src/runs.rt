@@ -25,15 +25,15 @@ fn take_steps<K: TokenId, S: NextStep<K, A>, A: Drop, G: Gate<K>, W: Wait>(
     gate: &G,
     caller: &mut Caller<K>,
     steps: Vec<S>,
-    replies: &mut Vec<A>,
+    answers: &mut Vec<A>,
 ) -> Result<(), NoMemory>
-    requires none { replies.old.items ≡ [] }
-    requires room { vec_len steps ≤ vec_capacity replies.old }
-    ensures { HasMade S.does S.may_fail caller.old steps.items replies.new.items result caller.new }
+    requires none { answers.old.items ≡ [] }
+    requires room { vec_len steps ≤ vec_capacity answers.old }
+    ensures { HasMade S.does S.may_fail caller.old steps.items answers.new.items result caller.new }
 {
     for step in steps {
-        let reply = step.make(rt, alloc, gate, caller)?;
-        replies.push_reserved(reply);
+        let answer = step.make(rt, alloc, gate, caller)?;
+        answers.push_reserved(answer);
     }
     Ok(())
 }

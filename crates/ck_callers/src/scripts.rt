@@ -6,8 +6,9 @@ use ck_journal::{Call, Reply};
 use ck_types::NoMemory;
 use std::alloc::Global;
 
-/// What a caller is to do, step by step, with room for the replies. The steps are calls, unless
-/// other types are named. This script is a list; those of ck_script are texts.
+/// What a caller is to do, step by step, with room for the answers. The steps are calls and the
+/// answers replies, unless other types are named. This script is a list; those of ck_script are
+/// texts.
 #[derive(Drop)]
 pub struct Script<K: TokenId, S: Drop = Call, A: Drop = Reply> {
     pub caller: Caller<K>,
@@ -21,7 +22,7 @@ pub struct Script<K: TokenId, S: Drop = Call, A: Drop = Reply> {
 impl<K: TokenId, S: Drop, A: Drop> Script<K, S, A> {
     ghost use Rattle.std.specs.Prelude.{◌≡◌, [], false, Ok, IfOk, IfErr};
 
-    /// A script that is still to be run. Where there is no room for the replies, the caller and the
+    /// A script that is still to be run. Where there is no room for the answers, the caller and the
     /// steps come back.
     pub fn new(
         alloc: Global,
@@ -55,14 +56,15 @@ impl<K: TokenId, S: Drop, A: Drop> Script<K, S, A> {
         self.started
     }
 
-    /// The replies to the steps that were taken when the script was run, in their order.
+    /// The answers to the steps that were taken when the script was run, in their order: replies,
+    /// where the steps are calls.
     pub fn replies(&self) -> &[A]
         ensures { result.now ≡ self.now.replies.items }
     {
         &self.replies
     }
 
-    /// The caller, and the replies to its steps.
+    /// The caller, and the answers to its steps.
     pub fn into_parts(self) -> (Caller<K>, Vec<A>)
         ensures { result ≡ (self.caller, self.replies) }
     {

@@ -1,4 +1,4 @@
--- An attribute's value as an object keeps it
+-- An attribute's value as an object keeps it. This mirrors the code.
 use Rattle.std.specs.Prelude.{ℕ, Bool, List, Option, Some, None}
 use Rattle.ck_types.specs.Numbers.{number_bytes}
 use Rattle.ck_objects.specs.Attributes.{flag_bytes}

@@ -1,5 +1,5 @@
 //! Scripts of calls that are read from a source: played line by line on a token and answered to a
-//! sink, or read whole for callers in threads. The token is of any type `G` that answers calls and
+//! sink, or read whole for callers in threads. The token is of any type `T` that answers calls and
 //! enters them in a journal.
 #![tactic(auto)]
 

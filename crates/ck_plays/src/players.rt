@@ -20,8 +20,8 @@ use std::marker::Model;
 
 /// A token that is played a script. Contracts see the token, the open line and its number.
 #[derive(Drop)]
-pub(crate) struct Player<G: JournaledToken> {
-    token: G,
+pub(crate) struct Player<T: JournaledToken> {
+    token: T,
     /// The beginning of the line that has no end yet.
     open_line: Vec<u8>,
     /// The text of the newest reply.
@@ -30,7 +30,7 @@ pub(crate) struct Player<G: JournaledToken> {
     number: u64,
 }
 
-impl<G: JournaledToken> Model for Player<G> {
+impl<T: JournaledToken> Model for Player<T> {
     ghost use Rattle.std.specs.Coded.{codes};
     ghost use Rattle.ck_journal.specs.HistoryCode.{history_code};
     ghost use Rattle.ck_plays.specs.Players.{PlayerState};
@@ -40,22 +40,22 @@ impl<G: JournaledToken> Model for Player<G> {
     ghost coded = { Prim.hlevel (codes, history_code) };
 
     ghost view = { λ p. record {
-      token = G.state p.token;
+      token = T.state p.token;
       open_line = p.open_line.items;
       number = p.number;
     } };
 }
 
-impl<G: JournaledToken> Player<G> {
+impl<T: JournaledToken> Player<T> {
     /// A new token of these limits, before the first line of a script.
-    pub(crate) fn new(alloc: Global, limits: Limits) -> Player<G>
+    pub(crate) fn new(alloc: Global, limits: Limits) -> Player<T>
         ensures limits { result.token.limits ≡ limits }
         ensures history { result.token.history ≡ start empty_base }
         ensures open_line { result.open_line ≡ [] }
         ensures number { result.number ≡ 1 }
     {
         Player {
-            token: G::new(alloc, limits),
+            token: T::new(alloc, limits),
             open_line: Vec::new(alloc),
             text: Vec::new(alloc),
             number: 1,
@@ -172,19 +172,19 @@ fn extend_open_line(open_line: &mut Vec<u8>, next: &[u8], number: u64) -> Result
 }
 
 /// Answers a call and writes the reply.
-fn answer_call<G: JournaledToken, W: Sink>(
-    token: &mut G,
+fn answer_call<T: JournaledToken, W: Sink>(
+    token: &mut T,
     text: &mut Vec<u8>,
     alloc: Global,
     writer: &mut W,
     caller: u32,
     call: Call,
 ) -> Result<(), PlayFault>
-    ensures ok { OnOk result (IsReplied (G.state token.old) (G.state token.new) caller call
+    ensures ok { OnOk result (IsReplied (T.state token.old) (T.state token.new) caller call
         (W.is_written writer.old) (W.is_written writer.new)) }
     ensures err { IfErr result (λ fault. (w : Writing) → W.is_written writer.old w
         → IsUnwritten (W.is_written writer.new) w
-        (reply_text (answer (G.state token.old).limits (G.state token.old).history call)) fault) }
+        (reply_text (answer (T.state token.old).limits (T.state token.old).history call)) fault) }
 {
     let reply = token.call(alloc, caller, call)?;
     text.clear();
@@ -193,18 +193,18 @@ fn answer_call<G: JournaledToken, W: Sink>(
 }
 
 /// Answers a line of this number.
-fn answer_line<G: JournaledToken, W: Sink>(
-    token: &mut G,
+fn answer_line<T: JournaledToken, W: Sink>(
+    token: &mut T,
     text: &mut Vec<u8>,
     alloc: Global,
     writer: &mut W,
     line: &[u8],
     number: u64,
 ) -> Result<(), PlayFault>
-    ensures ok { OnOk result (AnswersLine line.now (G.state token.old) number
-        (W.is_written writer.old) (G.state token.new) (next_number number)
+    ensures ok { OnOk result (AnswersLine line.now (T.state token.old) number
+        (W.is_written writer.old) (T.state token.new) (next_number number)
         (W.is_written writer.new)) }
-    ensures err { IfErr result (StopsAtLine line.now (G.state token.old) number
+    ensures err { IfErr result (StopsAtLine line.now (T.state token.old) number
         (W.is_written writer.old) (W.is_written writer.new)) }
 {
     match Line::parse(alloc, line) {

@@ -17,7 +17,7 @@ use std::alloc::Global;
 pub const MOST_READS: u64 = 4_294_967_296;
 
 /// Plays a script on a new token, in at most 2^32 reads.
-pub fn play<G: JournaledToken, R: Source, W: Sink>(
+pub fn play<T: JournaledToken, R: Source, W: Sink>(
     alloc: Global,
     limits: Limits,
     reader: &mut R,
@@ -28,13 +28,13 @@ pub fn play<G: JournaledToken, R: Source, W: Sink>(
         → IsPlayed limits most_reads read written
         (R.is_read reader.new) (W.is_written writer.new) result }
 {
-    play_with::<G, R, W>(alloc, limits, reader, writer, MOST_READS)
+    play_with::<T, R, W>(alloc, limits, reader, writer, MOST_READS)
 }
 
 /// Plays a script on a new token: one call after the other as the lines stand. Before it reads on,
 /// it answers all lines that have their ends, and before it makes a call, it has written the
 /// replies to those before. It makes at most `most` reads.
-pub fn play_with<G: JournaledToken, R: Source, W: Sink>(
+pub fn play_with<T: JournaledToken, R: Source, W: Sink>(
     alloc: Global,
     limits: Limits,
     reader: &mut R,
@@ -47,13 +47,13 @@ pub fn play_with<G: JournaledToken, R: Source, W: Sink>(
         (R.is_read reader.new) (W.is_written writer.new) result }
 {
     let mut buffer = new_buffer(alloc)?;
-    let mut player = Player::<G>::new(alloc, limits);
+    let mut player = Player::<T>::new(alloc, limits);
     play_on(&mut player, alloc, reader, writer, &mut buffer, most)
 }
 
 /// Reads and answers until the source ends, in at most `most` reads.
-fn play_on<G: JournaledToken, R: Source, W: Sink>(
-    player: &mut Player<G>,
+fn play_on<T: JournaledToken, R: Source, W: Sink>(
+    player: &mut Player<T>,
     alloc: Global,
     reader: &mut R,
     writer: &mut W,
@@ -77,8 +77,8 @@ fn play_on<G: JournaledToken, R: Source, W: Sink>(
 }
 
 /// Reads once and answers the lines that this ends. Says whether it found the end.
-fn answer_read<G: JournaledToken, R: Source, W: Sink>(
-    player: &mut Player<G>,
+fn answer_read<T: JournaledToken, R: Source, W: Sink>(
+    player: &mut Player<T>,
     alloc: Global,
     reader: &mut R,
     writer: &mut W,

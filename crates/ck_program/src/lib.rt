@@ -1,6 +1,6 @@
 //! What the program's arguments ask for, and the program over any options, source and sink: it
 //! plays a script line by line, or the lines of each caller in a thread of its own, or writes its
-//! help, and ends with a status. The token is of any type `G` that answers calls and enters them in
+//! help, and ends with a status. The token is of any type `T` that answers calls and enters them in
 //! a journal.
 #![tactic(auto)]
 

@@ -19,7 +19,7 @@ use std::io;
 /// Reads a script whole in at most `most` reads, plays the lines of these callers on a new token,
 /// those of each in a thread of its own, and writes how many entries the journal has and what its
 /// audit finds.
-pub fn play_threads<G: JournaledToken + Send, R: Source, W: Sink, RT: Runtime>(
+pub fn play_threads<T: JournaledToken + Send, R: Source, W: Sink, RT: Runtime>(
     rt: RT,
     alloc: Global,
     limits: Limits,
@@ -34,13 +34,13 @@ pub fn play_threads<G: JournaledToken + Send, R: Source, W: Sink, RT: Runtime>(
         (R.is_read reader.new) (W.is_written writer.new) result }
 {
     let calls = read_calls(alloc, reader, callers.count, most)?;
-    let summary = play_calls::<G, RT>(rt, alloc, limits, callers, &calls)?;
+    let summary = play_calls::<T, RT>(rt, alloc, limits, callers, &calls)?;
     write_all(writer, summary.as_bytes())?;
     Ok(())
 }
 
 /// Does what the options say with the largest limits.
-fn play_options<G: JournaledToken + Send, R: Source, W: Sink, RT: Runtime>(
+fn play_options<T: JournaledToken + Send, R: Source, W: Sink, RT: Runtime>(
     rt: RT,
     alloc: Global,
     options: Options,
@@ -54,9 +54,9 @@ fn play_options<G: JournaledToken + Send, R: Source, W: Sink, RT: Runtime>(
 {
     let limits = Limits::largest();
     match options {
-        Options::LineByLine => play::<G, R, W>(alloc, limits, reader, writer)?,
+        Options::LineByLine => play::<T, R, W>(alloc, limits, reader, writer)?,
         Options::InThreads(callers) => {
-            play_threads::<G, R, W, RT>(rt, alloc, limits, callers, reader, writer, MOST_READS)?
+            play_threads::<T, R, W, RT>(rt, alloc, limits, callers, reader, writer, MOST_READS)?
         }
         Options::Help(text) => write_all(writer, text.as_bytes())?,
     }
@@ -66,7 +66,7 @@ fn play_options<G: JournaledToken + Send, R: Source, W: Sink, RT: Runtime>(
 /// Does what the options say with the largest limits, and says with which status the program ends:
 /// 0 where it was done, 1 at a bad line, 3 after another fault, and 2 where the arguments are bad.
 /// What went wrong is said on standard error.
-pub fn run<G: JournaledToken + Send, R: Source, W: Sink, RT: Eprint + Runtime>(
+pub fn run<T: JournaledToken + Send, R: Source, W: Sink, RT: Eprint + Runtime>(
     rt: RT,
     alloc: Global,
     options: Result<Options, ArgumentFault>,
@@ -96,7 +96,7 @@ pub fn run<G: JournaledToken + Send, R: Source, W: Sink, RT: Eprint + Runtime>(
 {
     // Where standard error takes nothing, the status still says what came of it.
     match options {
-        Ok(options) => match play_options::<G, R, W, RT>(rt, alloc, options, reader, writer) {
+        Ok(options) => match play_options::<T, R, W, RT>(rt, alloc, options, reader, writer) {
             Ok(()) => 0,
             Err(fault) => {
                 let _ = eprintln!(&rt; "ck_run: {fault}");
@@ -112,7 +112,7 @@ pub fn run<G: JournaledToken + Send, R: Source, W: Sink, RT: Eprint + Runtime>(
 
 /// Does what `run` does, with a reader and a writer of std that haven't been used. It need not be
 /// known which bytes they give and hold: of these the contract says only what was counted.
-pub fn run_on_std<G: JournaledToken + Send, R: io::Read, W: io::Write, RT: Eprint + Runtime>(
+pub fn run_on_std<T: JournaledToken + Send, R: io::Read, W: io::Write, RT: Eprint + Runtime>(
     rt: RT,
     alloc: Global,
     options: Result<Options, ArgumentFault>,
@@ -142,5 +142,5 @@ pub fn run_on_std<G: JournaledToken + Send, R: io::Read, W: io::Write, RT: Eprin
         → IsCarriedOut chosen read written (⟦<ReadSource<R> as Source>⟧.is_read reader.new)
         (⟦<WriteSink<W> as Sink>⟧.is_written writer.new) (Err fault)) }
 {
-    run::<G, ReadSource<R>, WriteSink<W>, RT>(rt, alloc, options, reader, writer)
+    run::<T, ReadSource<R>, WriteSink<W>, RT>(rt, alloc, options, reader, writer)
 }

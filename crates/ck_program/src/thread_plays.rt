@@ -130,10 +130,10 @@ fn callers_of<K: TokenId>(
 }
 
 /// Plays the calls of each caller in a thread of its own.
-fn play_scripts<K: TokenId + Send + Sync, G: JournaledToken + Send, R: Runtime>(
+fn play_scripts<K: TokenId + Send + Sync, T: JournaledToken + Send, R: Runtime>(
     rt: R,
     alloc: Global,
-    token: &SharedToken<K, G, R>,
+    token: &SharedToken<K, T, R>,
     callers: Vec<Caller<K>>,
     calls: &[(u32, Call)],
 ) -> Result<Vec<Caller<K>>, ThreadFault>
@@ -147,14 +147,14 @@ fn play_scripts<K: TokenId + Send + Sync, G: JournaledToken + Send, R: Runtime>(
 }
 
 /// Shares a new token among callers, which play their calls, and takes it back.
-fn play_shared<K: TokenId + Send + Sync, G: JournaledToken + Send, R: Runtime>(
+fn play_shared<K: TokenId + Send + Sync, T: JournaledToken + Send, R: Runtime>(
     rt: R,
     alloc: Global,
     limits: Limits,
     callers: u32,
     identity: NewIdentity,
     calls: &[(u32, Call)],
-) -> Result<G, ThreadFault>
+) -> Result<T, ThreadFault>
     requires base { K.base ≡ empty_base }
     requires limits { limits ≡ K.limits }
     requires callers { (1 ≤ callers) × (callers ≤ 8) × (callers ≡ K.callers) }
@@ -164,15 +164,15 @@ fn play_shared<K: TokenId + Send + Sync, G: JournaledToken + Send, R: Runtime>(
     requires ledgers { (n : ℕ) → K.ledger n ≡ name_of identity.ledgers n }
 
     // The token that is taken back.
-    ensures limits { IfOk result (λ token. (G.state token).limits ≡ limits) }
-    ensures new { IfOk result (λ token. IsFront (start empty_base) (G.state token).history) }
-    ensures only { IfOk result (λ token. AreCallers callers (G.state token).history) }
+    ensures limits { IfOk result (λ token. (T.state token).limits ≡ limits) }
+    ensures new { IfOk result (λ token. IsFront (start empty_base) (T.state token).history) }
+    ensures only { IfOk result (λ token. AreCallers callers (T.state token).history) }
 
     // Its journal has the calls of each caller.
     ensures all { IfOk result (λ token. (number : ℕ) → 1 ≤ number → number ≤ callers
-        → HasEntriesOf calls.now number (G.state token).history) }
+        → HasEntriesOf calls.now number (T.state token).history) }
 {
-    let Ends { token, callers } = SharedToken::<K, G, R>::open(
+    let Ends { token, callers } = SharedToken::<K, T, R>::open(
         rt, alloc, limits, callers, identity,
     )?;
     let callers = play_scripts(rt, alloc, &token, callers, calls)?;
@@ -185,10 +185,10 @@ fn play_shared<K: TokenId + Send + Sync, G: JournaledToken + Send, R: Runtime>(
 
 /// How many entries the token's journal has, and what its audit finds, each on a line. That the
 /// journal is legal is proved; the audit shows it of the program as it was built.
-fn summary_of<G: JournaledToken>(alloc: Global, token: &G) -> Result<String, NoMemory>
+fn summary_of<T: JournaledToken>(alloc: Global, token: &T) -> Result<String, NoMemory>
     ensures text { IfOk result (λ text.
-        string_bytes text ≡ summary_text (entry_count (G.state token.now).history)) }
-    ensures legal { IsLegal (G.state token.now).limits (G.state token.now).history }
+        string_bytes text ≡ summary_text (entry_count (T.state token.now).history)) }
+    ensures legal { IsLegal (T.state token.now).limits (T.state token.now).history }
 {
     let entries = token.journal().len();
     match audit_token(alloc, token)? {
@@ -200,7 +200,7 @@ fn summary_of<G: JournaledToken>(alloc: Global, token: &G) -> Result<String, NoM
 
 /// Plays the calls of callers on a new token, those of each in a thread of its own. Gives how many
 /// entries the journal then has, and what its audit finds, each on a line.
-pub(crate) fn play_calls<G: JournaledToken + Send, R: Runtime>(
+pub(crate) fn play_calls<T: JournaledToken + Send, R: Runtime>(
     rt: R,
     alloc: Global,
     limits: Limits,
@@ -211,6 +211,6 @@ pub(crate) fn play_calls<G: JournaledToken + Send, R: Runtime>(
         IsSummary limits callers.count calls.now (string_bytes text)) }
 {
     let identity = NewIdentity::new();
-    let token = play_shared::<Brand, G, R>(rt, alloc, limits, callers.count, identity, calls)?;
+    let token = play_shared::<Brand, T, R>(rt, alloc, limits, callers.count, identity, calls)?;
     Ok(summary_of(alloc, &token)?)
 }

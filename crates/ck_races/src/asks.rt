@@ -1,7 +1,8 @@
-//! Of two or three callers of a token one logs in. Meanwhile another, which has learnt of the calls
-//! before, asks for the state of a session, without the lock, until it sees the login. Then it
-//! makes a call of its own, and sees a second login by asking only. The last asks before the first
-//! call; a third one makes no call, and asks once more after the first login.
+//! Two or three callers of a token, one of which logs in while another asks. The first logs in. The
+//! second has learnt of the calls before, and asks for the state of a session, without the lock,
+//! until it sees the login. Then it makes a call of its own, and sees a second login by asking only.
+//! A third makes no call, and asks once more after the first login. The last asks also before the
+//! first call.
 ghost use Rattle.std.specs.Prelude.{◌≡◌, ◌≤◌, IfOk};
 ghost use Rattle.ck_token.specs.Histories.{start, start_of};
 
@@ -89,7 +90,8 @@ pub(crate) fn await_status<K: TokenId>(
     bail!("a call of another caller isn't seen");
 }
 
-/// Before the first call the token is in this state, it has no sessions, and it has all mechanisms.
+/// Checks that before the first call the token is in this state, has no sessions, and has all
+/// mechanisms.
 fn check_before<K: TokenId>(
     alloc: Global,
     caller: &mut Caller<K>,
@@ -115,9 +117,9 @@ fn state_after(entries: u64) -> &'static str {
     if entries == FIRST { "0 2 6" } else { "0 3 6" }
 }
 
-/// All steps of a script were taken. With each answer comes how many entries the caller knows: it
-/// is that of their state, and what is known stays. A reply makes it more, by the entry of its call
-/// at least. Says how many questions were answered.
+/// Checks that all steps of a script were taken. With each answer comes how many entries the caller
+/// knows: the answer must be that of their state, and no entry is forgotten. With a reply the number
+/// must rise, by the entry of its call at least. Says how many questions were answered.
 fn check_script<K: TokenId>(alloc: Global, script: &StepScript<K>) -> anyhow::Result<u64> {
     check_taken(script)?;
     let mut known = FIRST;
@@ -147,7 +149,7 @@ fn caller_at<K: TokenId>(
     callers.get_mut(index).context("a caller is missing")
 }
 
-/// The second caller, which makes no call, learns. It then knows this many entries, and sees their
+/// Checks that a caller which makes no call, and learns, then knows this many entries and sees their
 /// state.
 fn check_learnt<K: TokenId>(
     alloc: Global,
@@ -174,7 +176,7 @@ fn check_learning<K: TokenId>(
     check_learnt(alloc, callers, &news, entries)
 }
 
-/// The second caller, which hasn't learnt of the login, sees it by asking only.
+/// Checks that the second caller, which hasn't learnt of the login, sees it by asking only.
 fn await_login<K: TokenId>(alloc: Global, caller: &mut Caller<K>) -> anyhow::Result<()> {
     if caller.seen() == FIRST {
         let ask = Ask::Session(1);
@@ -194,8 +196,8 @@ fn await_login<K: TokenId>(alloc: Global, caller: &mut Caller<K>) -> anyhow::Res
     Ok(())
 }
 
-/// A caller sees that the user is logged in, and what is older takes nothing from it. It has made
-/// as many calls as before.
+/// Checks that a caller sees that the user is logged in, that what is older takes nothing from it,
+/// and that it has made as many calls as before.
 fn check_older<K: TokenId>(
     alloc: Global,
     caller: &mut Caller<K>,
@@ -211,7 +213,8 @@ fn check_older<K: TokenId>(
     Ok(())
 }
 
-/// The second caller sees the login, and then learns of it. All callers know it then.
+/// Checks that the second caller sees the login and then learns of it, and that all callers know of
+/// it then.
 fn check_after<K: TokenId>(
     alloc: Global,
     callers: &mut [Caller<K>],
@@ -250,7 +253,7 @@ fn steps_of(alloc: Global, caller: u32, callers: usize) -> anyhow::Result<Vec<St
     Ok(steps)
 }
 
-/// The answers of scripts are right. Says how many questions were answered.
+/// Checks the answers to the steps of all scripts. Says how many questions were answered.
 fn check_scripts<K: TokenId>(alloc: Global, scripts: &[StepScript<K>]) -> anyhow::Result<u64> {
     let mut answered = 0u64;
     for script in scripts {
@@ -305,9 +308,9 @@ impl<'a, K: TokenId, R: Runtime> Shared<'a, K, R> {
         check_learning(alloc, callers, FIRST)
     }
 
-    /// The second caller makes a call that leaves the sessions, the login and the PINs as they are,
-    /// and is answered without the lock as before. Then it sees a login of the first by asking
-    /// only.
+    /// Checks that the second caller, when it has made a call that leaves the sessions, the login
+    /// and the PINs as they are, is answered without the lock as before. Then it sees a login of
+    /// the first by asking only.
     fn check_own_call(&self, callers: &mut [Caller<K>]) -> anyhow::Result<()> {
         let alloc = self.rt.alloc();
         let (session, ask) = (1, Ask::Session(1));

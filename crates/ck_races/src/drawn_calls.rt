@@ -29,8 +29,8 @@ fn check_codes(journal: &Journal) -> anyhow::Result<()> {
     Ok(())
 }
 
-/// Each caller got the replies of its entries, and the journal is as it must be. Says how many
-/// entries it has.
+/// Checks that each caller got the replies of its entries, and that the journal is as it must be.
+/// Says how many entries it has.
 fn check_drawn(
     alloc: Global,
     token: &Token,

@@ -68,8 +68,8 @@ impl<'a, K: TokenId + Send + Sync, R: Runtime> Shared<'a, K, R> {
     }
 }
 
-/// The callers got the replies of their entries, and there is an entry for each call. Says how many
-/// there are.
+/// Checks that the callers got the replies of their entries, and that there is an entry for each
+/// call. Says how many there are.
 fn check_calls(alloc: Global, token: &Token, replies: Vec<CallerReplies>) -> anyhow::Result<u64> {
     let journal = token.journal();
     check_replies(journal, replies)?;

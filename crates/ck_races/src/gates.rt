@@ -59,22 +59,22 @@ impl<'a, K: TokenId, G: Gate<K>> Gate<K> for HeldGate<'a, G> {
 /// that, the bytes of a long message are taken in: so the calls of others come between the
 /// beginning of the work on it and the call.
 #[derive(Drop)]
-pub(crate) struct TakingGate<'a, K: TokenId, G: JournaledToken, R: Wait + Drop> {
-    token: &'a SharedToken<K, G, R>,
+pub(crate) struct TakingGate<'a, K: TokenId, T: JournaledToken, R: Wait + Drop> {
+    token: &'a SharedToken<K, T, R>,
     order: &'a CallOrder<'a>,
 }
 
-impl<'a, K: TokenId, G: JournaledToken, R: Wait + Drop> TakingGate<'a, K, G, R> {
+impl<'a, K: TokenId, T: JournaledToken, R: Wait + Drop> TakingGate<'a, K, T, R> {
     /// A gate before a token, which answers the calls.
     pub(crate) fn new(
-        token: &'a SharedToken<K, G, R>,
+        token: &'a SharedToken<K, T, R>,
         order: &'a CallOrder<'a>,
-    ) -> TakingGate<'a, K, G, R> {
+    ) -> TakingGate<'a, K, T, R> {
         TakingGate { token, order }
     }
 }
 
-impl<'a, K: TokenId, G: JournaledToken, R: Wait + Drop> Gate<K> for TakingGate<'a, K, G, R> {
+impl<'a, K: TokenId, T: JournaledToken, R: Wait + Drop> Gate<K> for TakingGate<'a, K, T, R> {
     fn call<W: Wait>(
         &self,
         rt: &W,
@@ -93,16 +93,16 @@ impl<'a, K: TokenId, G: JournaledToken, R: Wait + Drop> Gate<K> for TakingGate<'
 /// A gate before a shared token. The calls with long messages begin when another caller has taken
 /// the lock. Any other call comes after them: until then its caller takes the lock again and again.
 #[derive(Drop)]
-pub(crate) struct LockingGate<'a, K: TokenId, G: JournaledToken, R: Wait + Drop> {
-    token: &'a SharedToken<K, G, R>,
+pub(crate) struct LockingGate<'a, K: TokenId, T: JournaledToken, R: Wait + Drop> {
+    token: &'a SharedToken<K, T, R>,
     locks: AtomicU64,
     /// How many calls with long messages are still to come.
     messages: AtomicU64,
 }
 
-impl<'a, K: TokenId, G: JournaledToken, R: Wait + Drop> LockingGate<'a, K, G, R> {
+impl<'a, K: TokenId, T: JournaledToken, R: Wait + Drop> LockingGate<'a, K, T, R> {
     /// A gate before a token, which answers the calls. This many of them have long messages.
-    pub(crate) fn new(token: &'a SharedToken<K, G, R>, messages: u64) -> LockingGate<'a, K, G, R> {
+    pub(crate) fn new(token: &'a SharedToken<K, T, R>, messages: u64) -> LockingGate<'a, K, T, R> {
         LockingGate {
             token,
             locks: AtomicU64::new(0),
@@ -127,7 +127,7 @@ impl<'a, K: TokenId, G: JournaledToken, R: Wait + Drop> LockingGate<'a, K, G, R>
     }
 }
 
-impl<'a, K: TokenId, G: JournaledToken, R: Wait + Drop> Gate<K> for LockingGate<'a, K, G, R> {
+impl<'a, K: TokenId, T: JournaledToken, R: Wait + Drop> Gate<K> for LockingGate<'a, K, T, R> {
     fn call<W: Wait>(
         &self,
         rt: &W,
@@ -149,15 +149,15 @@ impl<'a, K: TokenId, G: JournaledToken, R: Wait + Drop> Gate<K> for LockingGate<
 /// A gate before a shared token. The call of caller 1 is made under a lock that is held for long.
 /// Other calls begin when the lock was taken.
 #[derive(Drop)]
-pub(crate) struct HoldingGate<'a, K: TokenId, G: JournaledToken, R: Wait + Drop> {
-    token: &'a SharedToken<K, G, R>,
+pub(crate) struct HoldingGate<'a, K: TokenId, T: JournaledToken, R: Wait + Drop> {
+    token: &'a SharedToken<K, T, R>,
     /// How many times the lock was held for long.
     locks: AtomicU64,
 }
 
-impl<'a, K: TokenId, G: JournaledToken, R: Wait + Drop> HoldingGate<'a, K, G, R> {
+impl<'a, K: TokenId, T: JournaledToken, R: Wait + Drop> HoldingGate<'a, K, T, R> {
     /// A gate before a token, which answers the calls.
-    pub(crate) fn new(token: &'a SharedToken<K, G, R>) -> HoldingGate<'a, K, G, R> {
+    pub(crate) fn new(token: &'a SharedToken<K, T, R>) -> HoldingGate<'a, K, T, R> {
         HoldingGate {
             token,
             locks: AtomicU64::new(0),
@@ -165,7 +165,7 @@ impl<'a, K: TokenId, G: JournaledToken, R: Wait + Drop> HoldingGate<'a, K, G, R>
     }
 }
 
-impl<'a, K: TokenId, G: JournaledToken, R: Wait + Drop> Gate<K> for HoldingGate<'a, K, G, R> {
+impl<'a, K: TokenId, T: JournaledToken, R: Wait + Drop> Gate<K> for HoldingGate<'a, K, T, R> {
     fn call<W: Wait>(
         &self,
         rt: &W,

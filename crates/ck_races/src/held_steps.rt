@@ -36,7 +36,7 @@ fn steps(alloc: Global) -> anyhow::Result<Vec<Step>> {
     Ok(steps)
 }
 
-/// The reply of the entry of this number gives the handle of that number.
+/// Checks that the reply of the entry of this number gives the handle of that number.
 fn check_reply(reply: &Reply, entry: u64) -> anyhow::Result<()> {
     ensure!(
         matches!((&reply.rv, &reply.body), (Rv::Ok, Body::Handle(handle)) if *handle == entry),
@@ -45,7 +45,7 @@ fn check_reply(reply: &Reply, entry: u64) -> anyhow::Result<()> {
     Ok(())
 }
 
-/// What was answered to a step agrees with its number.
+/// Checks that what was answered to a step agrees with its number.
 fn check_answer(alloc: Global, answer: &Answered) -> anyhow::Result<()> {
     match answer {
         Answered::Reply { reply, seen } => check_reply(reply, *seen),
@@ -53,8 +53,8 @@ fn check_answer(alloc: Global, answer: &Answered) -> anyhow::Result<()> {
     }
 }
 
-/// All steps of a script were taken, the first of them as the entry of this number. Says how many
-/// were answered.
+/// Checks that all steps of a script were taken, the first of them as the entry of this number. Says
+/// how many were answered.
 fn check_script<K: TokenId>(
     alloc: Global,
     script: &StepScript<K>,
@@ -72,8 +72,8 @@ fn check_script<K: TokenId>(
     Ok(answers.len() as u64)
 }
 
-/// The first of two callers made its call as the entry of this number, and the second as the other
-/// of two. Says how many steps were answered.
+/// Checks that the first of two callers made its call as the entry of this number, and the second as
+/// the other of two. Says how many steps were answered.
 fn check_scripts<K: TokenId>(
     alloc: Global,
     scripts: &[StepScript<K>],
@@ -89,8 +89,9 @@ fn check_scripts<K: TokenId>(
 }
 
 impl<'a, K: TokenId, R: Runtime> Shared<'a, K, R> {
-    /// A caller that has made a call sees both sessions by asking only. Then it makes a call that
-    /// leaves sessions, logins and PINs as they are, and is answered without the lock as before.
+    /// Checks that a caller that has made a call sees both sessions by asking only. Then it makes a
+    /// call that leaves sessions, logins and PINs as they are, and must be answered without the lock
+    /// as before.
     fn check_opened(&self, caller: &mut Caller<K>) -> anyhow::Result<()> {
         let alloc = self.rt.alloc();
         if caller.seen() == 1 {

@@ -1,5 +1,5 @@
 //! What a token's journal is compared with when its callers are done.
-use crate::races::{Race, RaceLine, compare};
+use crate::races::{Race, RaceLine, check_reply};
 use crate::tokens::make_calls;
 use anyhow::{bail, ensure};
 use ck_audit::{Verdict, are_replies_of, audit_token};
@@ -57,7 +57,7 @@ pub(crate) fn check_audit(alloc: Global, token: &Token) -> anyhow::Result<u64> {
     }
 }
 
-/// Checks it also where calls were made again. Says how many were.
+/// Checks by an audit that the journal is legal, where calls were made again. Says how many were.
 pub(crate) fn check_retried(alloc: Global, token: &Token, retries: u64) -> anyhow::Result<u64> {
     if retries > 0 {
         check_audit(alloc, token)?;
@@ -87,7 +87,7 @@ fn check_in_order(alloc: Global, lines: &[RaceLine], journal: &Journal) -> anyho
         if entry.caller != line.caller {
             return Ok(false);
         }
-        compare(alloc, line, &entry.reply)?;
+        check_reply(alloc, line, &entry.reply)?;
     }
     Ok(true)
 }
@@ -101,7 +101,7 @@ pub(crate) fn check_entries(
     let is_kept = journal.len() == lines.len() as u64;
     ensure!(is_kept, "not an entry for each call");
     for (entry, line) in journal.iter().zip(lines) {
-        compare(alloc, line, &entry.reply)?;
+        check_reply(alloc, line, &entry.reply)?;
     }
     Ok(())
 }

@@ -91,7 +91,7 @@ impl Refusals {
     }
 }
 
-/// All wrong inputs are refused. Says how many there are.
+/// Checks that all wrong inputs are refused. Says how many there are.
 pub(crate) fn check_judges(alloc: Global) -> anyhow::Result<u64> {
     let races = races_in(alloc, RACES)?;
     let [race, wrong] = races.as_slice() else {

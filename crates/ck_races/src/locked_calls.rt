@@ -59,8 +59,8 @@ impl<'a, K: TokenId, R: Runtime> Shared<'a, K, R> {
     }
 }
 
-/// The journal has an entry for each call, also where its callers are lost. Says how many there
-/// are.
+/// Checks that the journal has an entry for each call, though the callers are lost. Says how many
+/// there are.
 fn check_calls(alloc: Global, token: &Token) -> anyhow::Result<u64> {
     let journal = token.journal();
     ensure!(journal.len() == ALL, "not an entry for each call");

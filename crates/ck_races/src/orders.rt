@@ -3,7 +3,7 @@ use ck_token::MOST_CALLERS;
 use rand_core::Rng;
 use rand_xoshiro::Xoshiro256PlusPlus;
 use std::sync::Wait;
-use std::sync::atomic::{AtomicU64, Ordering};
+use std::sync::atomic::{AtomicBool, AtomicU64, Ordering};
 use std::time::Duration;
 
 /// How many times a thread that waits for another looks at most. A held call looks when another has
@@ -12,10 +12,6 @@ pub(crate) const MOST_LOOKS: u32 = 1_000_000;
 
 /// The longest that a thread sleeps before it looks again, in microseconds.
 pub(crate) const LONGEST_SLEEP: u64 = 20;
-
-/// The count of made calls once a call has waited too long. No order has as many calls, so none is
-/// held any more.
-const LATE: u64 = u64::MAX / 2;
 
 /// An order of calls, by the numbers of their callers.
 #[derive(Drop)]
@@ -27,6 +23,8 @@ pub(crate) struct CallOrder<'a> {
     made: AtomicU64,
     /// How many times a call has come or was made.
     moves: AtomicU64,
+    /// Whether a call has waited too long. Then none is held any more.
+    is_late: AtomicBool,
 }
 
 impl<'a> CallOrder<'a> {
@@ -37,6 +35,7 @@ impl<'a> CallOrder<'a> {
             come: AtomicU64::new(0),
             made: AtomicU64::new(0),
             moves: AtomicU64::new(0),
+            is_late: AtomicBool::new(false),
         }
     }
 
@@ -47,7 +46,7 @@ impl<'a> CallOrder<'a> {
 
     /// Whether a call was made too early, since those before it weren't made in time.
     pub(crate) fn is_late(&self) -> bool {
-        self.made.load(Ordering::SeqCst) >= LATE
+        self.is_late.load(Ordering::SeqCst)
     }
 
     /// Tells all who wait that a call has come or was made.
@@ -63,8 +62,11 @@ impl<'a> CallOrder<'a> {
     }
 
     /// Whether the next call is this caller's, and each caller that still has a call in the order
-    /// has come to the gate with its next one.
+    /// has come to the gate with its next one; or calls aren't held any more.
     fn is_next(&self, caller: u32) -> bool {
+        if self.is_late() {
+            return true;
+        }
         let made = self.made.load(Ordering::SeqCst);
         let left = self.callers.get(made as usize..).unwrap_or(&[]);
         let Some(next) = left.first() else {
@@ -94,7 +96,7 @@ impl<'a> CallOrder<'a> {
             let moves = (moves % 0x1_0000_0000) as u32;
             self.moves.park_timeout(rt, moves, longest);
         }
-        self.made.store(LATE, Ordering::SeqCst);
+        self.is_late.store(true, Ordering::SeqCst);
         self.tell();
     }
 }

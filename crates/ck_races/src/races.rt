@@ -146,7 +146,7 @@ fn limits_of(number: u64, sessions: &str) -> anyhow::Result<Limits> {
 }
 
 /// Checks that the reply is that of the line.
-pub(crate) fn compare(alloc: Global, line: &RaceLine, reply: &Reply) -> anyhow::Result<()> {
+pub(crate) fn check_reply(alloc: Global, line: &RaceLine, reply: &Reply) -> anyhow::Result<()> {
     let came = reply_line(alloc, reply)?;
     ensure!(
         came.as_str() == line.reply,

@@ -12,7 +12,7 @@ use std::alloc::Global;
 
 /// A script of a caller. Where there is no room for its replies, the caller and the calls come back
 /// as they were, and it is tried once more.
-fn script_of<K: TokenId>(
+fn retried_script<K: TokenId>(
     alloc: Global,
     caller: Caller<K>,
     calls: Vec<Call>,
@@ -39,7 +39,7 @@ fn one_script<K: TokenId>(
     calls: Vec<Call>,
 ) -> anyhow::Result<Vec<Script<K>>> {
     let caller = callers.pop().context("a caller is missing")?;
-    Ok(vec![in alloc; script_of(alloc, caller, calls)?]?)
+    Ok(vec![in alloc; retried_script(alloc, caller, calls)?]?)
 }
 
 /// How many of this many calls of the one script were answered.
@@ -51,7 +51,7 @@ fn count_answered<K: TokenId>(scripts: &[Script<K>], calls: usize) -> anyhow::Re
     Ok(answered)
 }
 
-/// The one caller has made this many calls, and knows as many entries.
+/// Checks that the one caller has made this many calls, and knows as many entries.
 fn check_counts<K: TokenId>(callers: &[Caller<K>], answered: u64) -> anyhow::Result<()> {
     let caller = callers.first().context("a caller is missing")?;
     ensure!(

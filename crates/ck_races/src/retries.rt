@@ -1,7 +1,7 @@
 //! The calls of a race, one after the other on a shared token, by two callers in turn. What finds
 //! no memory, which `bench/growths.py` refuses, is made again by the other one.
 use crate::journals::check_retried;
-use crate::races::{Race, RaceLine, compare};
+use crate::races::{Race, RaceLine, check_reply};
 use crate::retried_runs::retry_run;
 use crate::retried_scripts::retry_script;
 use crate::shared_work::{Shared, SharedWork, share_with};
@@ -41,8 +41,8 @@ fn knowledge_of<K: TokenId>(caller: &mut Caller<K>) -> anyhow::Result<Knowledge>
     })
 }
 
-/// A caller knows what it knew, and is answered as it was. When it asks it may learn of calls that
-/// others made before.
+/// Checks that a caller knows what it knew, and is answered as it was. When it asks it may learn of
+/// calls that others made before.
 fn check_unchanged<K: TokenId>(caller: &mut Caller<K>, before: &Knowledge) -> anyhow::Result<()> {
     let knows_the_same = caller.seen() == before.seen && caller.count() == before.count;
     let after = knowledge_of(caller)?;
@@ -61,7 +61,7 @@ impl<'a, K: TokenId, R: Runtime> Shared<'a, K, R> {
         let Ok(reply) = self.call(caller, line.call.clone()?) else {
             return Ok(false);
         };
-        compare(self.rt.alloc(), line, &reply)?;
+        check_reply(self.rt.alloc(), line, &reply)?;
         Ok(true)
     }
 
@@ -129,7 +129,7 @@ impl<'a, K: TokenId, R: Runtime> Shared<'a, K, R> {
     }
 }
 
-/// There is an entry for each call of a race, of which this many were made again.
+/// Checks that there is an entry for each call of a race, of which this many were made again.
 fn check_calls(alloc: Global, token: &Token, race: &Race, retries: u64) -> anyhow::Result<u64> {
     let calls = race.lines.len().saturating_add(race.afterwards.len());
     ensure!(

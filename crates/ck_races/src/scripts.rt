@@ -27,6 +27,7 @@ where
     requires { F.IsAlwaysCallable steps_of.now }
 {
     let steps = steps_of(caller.number())?;
+    // A match, since the closure of a `map_err` would be heavy for the prover.
     match Script::new(alloc, caller, steps) {
         Ok(script) => Ok(script),
         Err(_) => Err(NoMemory.into()),

@@ -36,8 +36,8 @@ impl<'a, K: TokenId, R: Runtime> Shared<'a, K, R> {
     }
 }
 
-/// The callers had the lock in their order, and got the replies of their entries. Says how many
-/// entries there are.
+/// Checks that the callers had the lock in their order, and got the replies of their entries. Says
+/// how many entries there are.
 fn check_calls(alloc: Global, token: &Token, replies: Vec<CallerReplies>) -> anyhow::Result<u64> {
     let journal = token.journal();
     ensure!(

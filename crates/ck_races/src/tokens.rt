@@ -2,14 +2,14 @@
 ghost use Rattle.std.specs.Prelude.{◌≡◌, IfOk};
 ghost use Rattle.ck_token.specs.Histories.{start, start_of};
 
-use crate::races::{Race, RaceLine, compare, line_in};
+use crate::races::{Race, RaceLine, check_reply, line_in};
 use ck_token::{Limits, Token};
 use std::alloc::Global;
 
 /// Makes a call, and looks whether its reply is that of the file.
 fn make_call(alloc: Global, token: &mut Token, line: &RaceLine) -> anyhow::Result<()> {
     let reply = token.call(alloc, line.caller, line.call.clone()?)?;
-    compare(alloc, line, &reply)
+    check_reply(alloc, line, &reply)
 }
 
 /// Makes calls one after the other.

@@ -115,7 +115,8 @@ impl JournaledToken for WatchedToken {
     }
 }
 
-/// The token was used as it must be.
+/// Checks how many times the token was asked to begin work, was given work that was done, and had
+/// its board read.
 fn check_uses(token: &WatchedToken) -> anyhow::Result<()> {
     let begun = token.works.load(Ordering::SeqCst);
     ensure!(

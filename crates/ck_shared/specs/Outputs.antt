@@ -3,9 +3,9 @@ use Rattle.std.specs.Prelude.{◌≡◌}
 use Rattle.ck_journal.specs.Histories.{History}
 use Rattle.ck_callers.specs.Callers.{CallerState, IsSettled}
 
--- this holds of the caller before its work, of it afterwards and of the output; it has the same
--- number afterwards, and what it then knows is a front of the history, which has no other entries
--- of it than those of its calls
+-- `holds` is so of the caller before its work, of the caller after it and of the output; the caller
+-- keeps its number, what it knows afterwards is a front of the history, and the history's entries of
+-- the caller are those of its answered calls
 abbrev pub IsOfCaller : {Output : Type 0} → (CallerState → CallerState → Output → Type 0)
     → History → CallerState → Output → Type 0
 IsOfCaller holds h caller output =

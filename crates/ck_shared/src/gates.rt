@@ -5,9 +5,8 @@ use ck_types::NoMemory;
 use std::alloc::Global;
 use std::sync::Wait;
 
-/// A shared token answers the calls of a run, each under its lock, and its questions without the
-/// lock.
-impl<K: TokenId, G: JournaledToken, R: Wait + Drop> Gate<K> for SharedToken<K, G, R> {
+/// A shared token answers each call of a caller under its lock, and each question without it.
+impl<K: TokenId, T: JournaledToken, R: Wait + Drop> Gate<K> for SharedToken<K, T, R> {
     // Inlined, since a function that only hands a call on would copy it.
     #[inline(always)]
     fn call<W: Wait>(

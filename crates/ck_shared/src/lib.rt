@@ -1,5 +1,5 @@
-//! A token that threads share: its calls are made under one lock, and its state is read off a board
-//! without the lock.
+//! A token that threads share: its calls are made under one lock. Without the lock callers read its
+//! state off a copy, the board.
 #![tactic(auto)]
 
 mod gates;

@@ -16,20 +16,20 @@ use std::sync::Wait;
 /// What lies under the lock: the token, and what ties it to its callers and to the board. Contracts
 /// see the token.
 #[derive(Drop)]
-pub struct Locked<K: TokenId, G: JournaledToken, R: Wait + Drop>
+pub struct Locked<K: TokenId, T: JournaledToken, R: Wait + Drop>
 // `impl Absorb for BoardCopy` gives this bound. The prover wants it repeated, since a field's type
 // needs it.
 where
     BoardCopy<K>: Absorb<BoardSlot<K>, State = ()>,
 {
-    token: G,
+    token: T,
     books: CallBooks<K>,
     known: KnownHistory<K>,
     head: Head<K>,
     writer: WriteHandle<BoardCopy<K>, BoardSlot<K>, R>,
 }
 
-impl<K: TokenId, G: JournaledToken, R: Wait + Drop> Model for Locked<K, G, R>
+impl<K: TokenId, T: JournaledToken, R: Wait + Drop> Model for Locked<K, T, R>
 where
     BoardCopy<K>: Absorb<BoardSlot<K>, State = ()>,
 {
@@ -44,9 +44,9 @@ where
 
     ghost coded = { Prim.hlevel (codes, history_code) };
 
-    ghost view = { λ l. G.state l.token };
+    ghost view = { λ l. T.state l.token };
 
-    ghost invariant = { λ l. IsTied K.limits K.callers (G.state l.token) l.books l.known
+    ghost invariant = { λ l. IsTied K.limits K.callers (T.state l.token) l.books l.known
         (published l.writer) × (pending l.writer ≡ []) };
 }
 
@@ -74,15 +74,15 @@ fn add_slot<K: TokenId, R: Wait + Drop>(
 }
 
 /// Fills a pending slot with the token's board and publishes it.
-fn publish_slot<K: TokenId, G: JournaledToken, R: Wait + Drop, W: Wait>(
+fn publish_slot<K: TokenId, T: JournaledToken, R: Wait + Drop, W: Wait>(
     rt: &W,
     writer: &mut WriteHandle<BoardCopy<K>, BoardSlot<K>, R>,
     slot: &BoardSlot<K>,
-    token: &G,
+    token: &T,
     known: &KnownHistory<K>,
 )
-    requires limits { (G.state token.now).limits ≡ K.limits }
-    requires history { known.now.history ≡ (G.state token.now).history }
+    requires limits { (T.state token.now).limits ≡ K.limits }
+    requires history { known.now.history ≡ (T.state token.now).history }
     ensures board { Covers known.now (published writer.new) }
     ensures pending { pending writer.new ≡ [] }
 {
@@ -98,15 +98,15 @@ fn publish_slot<K: TokenId, G: JournaledToken, R: Wait + Drop, W: Wait>(
 }
 
 /// Publishes the token's board by way of a slot. Where there is none, it is published already.
-fn publish_board<K: TokenId, G: JournaledToken, R: Wait + Drop, W: Wait>(
+fn publish_board<K: TokenId, T: JournaledToken, R: Wait + Drop, W: Wait>(
     rt: &W,
     writer: &mut WriteHandle<BoardCopy<K>, BoardSlot<K>, R>,
     slot: Option<BoardSlot<K>>,
-    token: &G,
+    token: &T,
     known: &KnownHistory<K>,
 )
-    requires limits { (G.state token.now).limits ≡ K.limits }
-    requires history { known.now.history ≡ (G.state token.now).history }
+    requires limits { (T.state token.now).limits ≡ K.limits }
+    requires history { known.now.history ≡ (T.state token.now).history }
     requires published { IfNone slot (Covers known.now (published writer.old)
         × (pending writer.old ≡ [])) }
     ensures board { Covers known.now (published writer.new) }
@@ -119,17 +119,17 @@ fn publish_board<K: TokenId, G: JournaledToken, R: Wait + Drop, W: Wait>(
 
 /// Adds the token's newest entry to the history, and shows that `other` is a front of the history
 /// before it.
-fn extend<K: TokenId, G: JournaledToken, W: Wait>(
+fn extend<K: TokenId, T: JournaledToken, W: Wait>(
     rt: &W,
     front: &mut Front<K>,
     head: &Head<K>,
     other: &Front<K>,
-    token: &G,
+    token: &T,
 )
-    requires limits { (G.state token.now).limits ≡ K.limits }
+    requires limits { (T.state token.now).limits ≡ K.limits }
     requires room { entry_count front.old < 2 ^ 64 - 1 }
-    requires next { (e : Entry) × ((G.state token.now).history ≡ e ◁ front.old) }
-    ensures { (front.new ≡ (G.state token.now).history) × IsFront other.now front.old }
+    requires next { (e : Entry) × ((T.state token.now).history ≡ e ◁ front.old) }
+    ensures { (front.new ≡ (T.state token.now).history) × IsFront other.now front.old }
 {
     // The first pass returns: only who holds the lock adds entries. No contract of the common log
     // says so.
@@ -158,7 +158,7 @@ fn show_is_front<K: TokenId, W: Wait>(rt: &W, other: &Front<K>, front: &Front<K>
     unreachable!()
 }
 
-impl<K: TokenId, G: JournaledToken, R: Wait + Drop> Locked<K, G, R> {
+impl<K: TokenId, T: JournaledToken, R: Wait + Drop> Locked<K, T, R> {
     ghost use Rattle.std.specs.Prelude.{◌≡◌, [], IfOk, IfSome, OnOk, OnErr};
     ghost use Rattle.std.specs.Option.{option_copied};
     ghost use Rattle.left_right.specs.Handles.{published, pending};
@@ -172,16 +172,16 @@ impl<K: TokenId, G: JournaledToken, R: Wait + Drop> Locked<K, G, R> {
 
     /// Ties a token to its callers and to the board.
     pub(crate) fn new(
-        token: G,
+        token: T,
         books: CallBooks<K>,
         known: KnownHistory<K>,
         head: Head<K>,
         writer: WriteHandle<BoardCopy<K>, BoardSlot<K>, R>,
-    ) -> Locked<K, G, R>
-        requires tied { IsTied K.limits K.callers (G.state token) books known
+    ) -> Locked<K, T, R>
+        requires tied { IsTied K.limits K.callers (T.state token) books known
             (published writer) }
         requires pending { pending writer ≡ [] }
-        ensures { result ≡ G.state token }
+        ensures { result ≡ T.state token }
     {
         Locked {
             token,
@@ -203,11 +203,11 @@ impl<K: TokenId, G: JournaledToken, R: Wait + Drop> Locked<K, G, R> {
     }
 
     /// The token without its lock. It may wait for those who still read the board.
-    pub(crate) fn into_token(self) -> G
-        ensures token { G.state result ≡ self }
-        ensures limits { (G.state result).limits ≡ K.limits }
-        ensures callers { AreCallers K.callers (G.state result).history }
-        ensures base { IsFront (start K.base) (G.state result).history }
+    pub(crate) fn into_token(self) -> T
+        ensures token { T.state result ≡ self }
+        ensures limits { (T.state result).limits ≡ K.limits }
+        ensures callers { AreCallers K.callers (T.state result).history }
+        ensures base { IsFront (start K.base) (T.state result).history }
     {
         // Tells the prover that the history goes on from the base.
         let _entries = self.known.front().len();
@@ -216,8 +216,8 @@ impl<K: TokenId, G: JournaledToken, R: Wait + Drop> Locked<K, G, R> {
     }
 
     /// The token, to be read under the lock.
-    pub fn token(&self) -> &G
-        ensures { G.state result.now ≡ self.now }
+    pub fn token(&self) -> &T
+        ensures { T.state result.now ≡ self.now }
     {
         &self.token
     }
@@ -238,8 +238,8 @@ impl<K: TokenId, G: JournaledToken, R: Wait + Drop> Locked<K, G, R> {
         show_is_front(rt, front, self.known.front());
     }
 
-    /// One call of a caller (no `Step`, which may be a question too). Where there is no memory for
-    /// it, nothing has changed. Where the call may change the board, it may wait for those who
+    /// One call of a caller, never a question, though a `Step` may be one. Where there is no memory
+    /// for it, nothing has changed. Where the call may change the board, it may wait for those who
     /// still read an older copy.
     // Inlined, since a function that only hands a call on would copy it.
     #[inline(always)]
@@ -284,7 +284,8 @@ impl<K: TokenId, G: JournaledToken, R: Wait + Drop> Locked<K, G, R> {
         let keeps_board = call.keeps_board();
         let slot = add_slot(alloc, &mut self.writer, keeps_board)?;
         let Ok(reply) = self.token.call_after(alloc, number, call, work) else {
-            // The slot is pending, so it is filled with the board as it is: no operation waits.
+            // The slot is appended already. It is filled with the board as it is and published, so
+            // that no operation waits.
             publish_board(rt, &mut self.writer, slot, &self.token, &self.known);
             return Err(NoMemory);
         };

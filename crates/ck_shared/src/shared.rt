@@ -7,19 +7,19 @@ use std::alloc::Global;
 use std::sync::{Mutex, MutexGuard, Wait};
 use std::thread;
 
-/// A token behind a lock, which its callers share. `K` stands for the token's history, `G` is the
-/// token's type, and `R` the runtime.
+/// A token behind a lock, which its callers share. `K` stands for the token's history, `T` is the
+/// token's type, and `R` the runtime by which the board's writer waits for readers.
 #[derive(Drop)]
-pub struct SharedToken<K: TokenId, G: JournaledToken, R: Wait + Drop> {
-    lock: Mutex<Locked<K, G, R>>,
+pub struct SharedToken<K: TokenId, T: JournaledToken, R: Wait + Drop> {
+    lock: Mutex<Locked<K, T, R>>,
     callers: CallerCount<K>,
 }
 
 /// The two ends of a shared token: what all threads are lent, and the callers in the order of their
 /// numbers.
 #[derive(Drop)]
-pub struct Ends<K: TokenId, G: JournaledToken, R: Wait + Drop> {
-    pub token: SharedToken<K, G, R>,
+pub struct Ends<K: TokenId, T: JournaledToken, R: Wait + Drop> {
+    pub token: SharedToken<K, T, R>,
     pub callers: Vec<Caller<K>>,
 }
 
@@ -36,12 +36,11 @@ pub struct TakenMessage<K: TokenId> {
 /// How many times a thread looks whether the lock is free before it sleeps.
 const LOOKS: u32 = 11;
 
-/// How many of these looks, the first ones, follow one another at once. Together they take about a
-/// microsecond.
+/// How many looks come before a thread lets others run. Together they take about a microsecond.
 const QUICK_LOOKS: u32 = 5;
 
 /// How many times a thread lets others run before the first of the later looks, which takes about
-/// 20 microseconds. Before each of the next looks it lets them run twice as many times.
+/// 20 microseconds, and twice as many times before each look after it.
 const YIELDS: u32 = 64;
 
 /// Lets other threads run this many times.
@@ -51,7 +50,7 @@ fn let_others_run(times: u32) {
     }
 }
 
-impl<K: TokenId, G: JournaledToken, R: Wait + Drop> SharedToken<K, G, R> {
+impl<K: TokenId, T: JournaledToken, R: Wait + Drop> SharedToken<K, T, R> {
     ghost use Rattle.std.specs.Prelude.{◌≡◌, ◌≤◌, ℕ, true, false, All, IfSome};
     ghost use Rattle.std.specs.Prelude.{IfOk, OnOk, IfErr, OnErr};
     ghost use Rattle.ck_journal.specs.Bases.{empty_base};
@@ -67,12 +66,12 @@ impl<K: TokenId, G: JournaledToken, R: Wait + Drop> SharedToken<K, G, R> {
     pub fn adopt(
         rt: R,
         alloc: Global,
-        token: G,
+        token: T,
         callers: u32,
         identity: NewIdentity,
-    ) -> Result<Ends<K, G, R>, (G, NoMemory)>
-        requires history { (G.state token).history ≡ start K.base }
-        requires limits { (G.state token).limits ≡ K.limits }
+    ) -> Result<Ends<K, T, R>, (T, NoMemory)>
+        requires history { (T.state token).history ≡ start K.base }
+        requires limits { (T.state token).limits ≡ K.limits }
         requires callers { (1 ≤ callers) × (callers ≤ 8) × (callers ≡ K.callers) }
 
         // `K` stands for the names of this identity.
@@ -107,7 +106,7 @@ impl<K: TokenId, G: JournaledToken, R: Wait + Drop> SharedToken<K, G, R> {
         limits: Limits,
         callers: u32,
         identity: NewIdentity,
-    ) -> Result<Ends<K, G, R>, NoMemory>
+    ) -> Result<Ends<K, T, R>, NoMemory>
         requires base { K.base ≡ empty_base }
         requires limits { limits ≡ K.limits }
         requires callers { (1 ≤ callers) × (callers ≤ 8) × (callers ≡ K.callers) }
@@ -115,14 +114,14 @@ impl<K: TokenId, G: JournaledToken, R: Wait + Drop> SharedToken<K, G, R> {
         requires ledgers { (n : ℕ) → K.ledger n ≡ name_of identity.ledgers n }
         ensures { IfOk result (λ ends. ends.callers.items ≡ new_callers K.base callers) }
     {
-        let token = G::new(alloc, limits);
+        let token = T::new(alloc, limits);
         SharedToken::adopt(rt, alloc, token, callers, identity).map_err(|refused| refused.1)
     }
 
     /// Takes the lock. Whoever has it makes calls by `Locked::step`, with no others between them,
     /// and reads the token by `Locked::token`. The board answers without the lock meanwhile. What
     /// is known of the token under the lock is the invariant of `Locked`, so no clause repeats it.
-    pub fn lock<W: Wait>(&self, rt: &W) -> MutexGuard<'_, Locked<K, G, R>> {
+    pub fn lock<W: Wait>(&self, rt: &W) -> MutexGuard<'_, Locked<K, T, R>> {
         let backoff = Backoff::new();
         let mut yields = YIELDS;
         for look in 0..LOOKS {
@@ -222,19 +221,19 @@ impl<K: TokenId, G: JournaledToken, R: Wait + Drop> SharedToken<K, G, R> {
         self,
         rt: &W,
         callers: Vec<Caller<K>>,
-    ) -> Result<G, (SharedToken<K, G, R>, Vec<Caller<K>>)>
+    ) -> Result<T, (SharedToken<K, T, R>, Vec<Caller<K>>)>
         ensures all { OnOk result (are_all K.callers callers.items ≡ true) }
         ensures missing { OnErr result (are_all K.callers callers.items ≡ false) }
         ensures back { IfErr result (λ refused. refused.1 ≡ callers) }
 
         // The token that comes back.
-        ensures limits { IfOk result (λ token. (G.state token).limits ≡ K.limits) }
-        ensures callers { IfOk result (λ token. AreCallers K.callers (G.state token).history) }
-        ensures base { IfOk result (λ token. IsFront (start K.base) (G.state token).history) }
+        ensures limits { IfOk result (λ token. (T.state token).limits ≡ K.limits) }
+        ensures callers { IfOk result (λ token. AreCallers K.callers (T.state token).history) }
+        ensures base { IfOk result (λ token. IsFront (start K.base) (T.state token).history) }
 
         // What each caller knew is a front of its journal.
         ensures settled { IfOk result (λ token.
-            All (IsSettled (G.state token).history) callers.items) }
+            All (IsSettled (T.state token).history) callers.items) }
     {
         if !self.callers.are_all(&callers) {
             return Err((self, callers));
@@ -248,16 +247,16 @@ impl<K: TokenId, G: JournaledToken, R: Wait + Drop> SharedToken<K, G, R> {
 
     /// Takes the token back without its callers, which make no more calls. It may wait for those
     /// who still read the board.
-    pub fn into_token(self) -> G
-        ensures limits { (G.state result).limits ≡ K.limits }
-        ensures callers { AreCallers K.callers (G.state result).history }
-        ensures base { IsFront (start K.base) (G.state result).history }
+    pub fn into_token(self) -> T
+        ensures limits { (T.state result).limits ≡ K.limits }
+        ensures callers { AreCallers K.callers (T.state result).history }
+        ensures base { IsFront (start K.base) (T.state result).history }
     {
         self.into_locked().into_token()
     }
 
     /// What lies under the lock.
-    pub(crate) fn into_locked(self) -> Locked<K, G, R> {
+    pub(crate) fn into_locked(self) -> Locked<K, T, R> {
         self.lock.into_inner()
     }
 }

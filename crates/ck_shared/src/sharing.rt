@@ -50,16 +50,16 @@ fn show_number<K: TokenId, R: Runtime>(rt: &R, caller: &Caller<K>, number: u32)
 
 /// All callers do their work, each in a thread of its own. They come back with their outputs, in
 /// their order.
-fn act_together<K: TokenId + Send + Sync, G: Gate<K> + Sync, W: CallerWork<R> + Sync, R: Runtime>(
+fn act_together<K: TokenId + Send + Sync, G: Gate<K> + Sync, C: CallerWork<R> + Sync, R: Runtime>(
     rt: &R,
     alloc: Global,
     gate: &G,
     callers: Vec<Caller<K>>,
-    work: &W,
-) -> Result<Vec<(W::Output, Caller<K>)>, NoMemory>
+    work: &C,
+) -> Result<Vec<(C::Output, Caller<K>)>, NoMemory>
     ensures len { IfOk result (λ done. vec_len done ≡ vec_len callers) }
     ensures done { IfOk result (λ done.
-        AllZip (λ c d. (d.1.number ≡ c.number) × W.holds work.now c d.1 d.0)
+        AllZip (λ c d. (d.1.number ≡ c.number) × C.holds work.now c d.1 d.0)
         callers.items done.items) }
 {
     let done = thread::map_vec(
@@ -67,7 +67,7 @@ fn act_together<K: TokenId + Send + Sync, G: Gate<K> + Sync, W: CallerWork<R> + 
         callers,
         &|mut caller: Caller<K>|
             ensures { (result.1.number ≡ caller.number)
-                × W.holds work.entry.now caller result.1 result.0 }
+                × C.holds work.entry.now caller result.1 result.0 }
         {
             let number = caller.number();
             let output = work.act(rt, gate, &mut caller);
@@ -98,19 +98,19 @@ fn settle_all<K: TokenId, T: JournaledToken, X: Drop, R: Runtime>(
 }
 
 /// All callers do their work on a shared token, and it is taken back with their outputs.
-fn work_on<K: TokenId + Send + Sync, T: JournaledToken + Send, W: CallerWork<R> + Sync, R: Runtime>(
+fn work_on<K: TokenId + Send + Sync, T: JournaledToken + Send, C: CallerWork<R> + Sync, R: Runtime>(
     rt: &R,
     alloc: Global,
     shared: SharedToken<K, T, R>,
     callers: Vec<Caller<K>>,
-    work: &W,
-) -> (T, Result<Vec<W::Output>, NoMemory>)
+    work: &C,
+) -> (T, Result<Vec<C::Output>, NoMemory>)
     ensures limits { (T.state result.0).limits ≡ K.limits }
     ensures callers { AreCallers K.callers (T.state result.0).history }
     ensures base { IsFront (start K.base) (T.state result.0).history }
     ensures count { IfOk result.1 (λ outputs. vec_len outputs ≡ vec_len callers) }
     ensures outputs { IfOk result.1 (λ outputs.
-        AllZip (IsOfCaller (W.holds work.now) (T.state result.0).history)
+        AllZip (IsOfCaller (C.holds work.now) (T.state result.0).history)
         callers.items outputs.items) }
 {
     let Ok(mut outputs) = Vec::with_capacity(alloc, callers.len()) else {
@@ -131,7 +131,7 @@ fn work_on<K: TokenId + Send + Sync, T: JournaledToken + Send, W: CallerWork<R> 
 fn share_as<
     K: TokenId + Send + Sync,
     T: JournaledToken + Send,
-    W: CallerWork<R> + Sync,
+    C: CallerWork<R> + Sync,
     R: Runtime,
 >(
     rt: R,
@@ -139,8 +139,8 @@ fn share_as<
     token: &mut T,
     callers: u32,
     identity: NewIdentity,
-    work: &W,
-) -> Result<Vec<W::Output>, NoMemory>
+    work: &C,
+) -> Result<Vec<C::Output>, NoMemory>
     requires history { (T.state token.old).history ≡ start K.base }
     requires limits { (T.state token.old).limits ≡ K.limits }
     requires callers { (1 ≤ callers) × (callers ≤ 8) × (callers ≡ K.callers) }
@@ -157,7 +157,7 @@ fn share_as<
     // The outputs, one for each caller.
     ensures count { IfOk result (λ outputs. vec_len outputs ≡ callers) }
     ensures outputs { IfOk result (λ outputs.
-        AllZip (IsOfCaller (W.holds work.now) (T.state token.new).history)
+        AllZip (IsOfCaller (C.holds work.now) (T.state token.new).history)
         (new_callers K.base callers) outputs.items) }
 {
     let limits = token.limits();
@@ -184,15 +184,15 @@ fn share_as<
 
 /// Shares a token among the callers 1 to `callers`, at most eight, until each has done its work in
 /// a thread of its own. The token's journal must have no entries. Gives the outputs in the order of
-/// the callers. Where no thread can be made, each does its work after the one before, so callers
-/// that wait for one another may hang. Where memory runs out, some callers may have done nothing.
-pub fn share<T: JournaledToken + Send, W: CallerWork<R> + Sync, R: Runtime>(
+/// the callers. Where no thread can be made, the callers work one after the other, so callers that
+/// wait for one another may hang. Where memory runs out, some callers may have done nothing.
+pub fn share<T: JournaledToken + Send, C: CallerWork<R> + Sync, R: Runtime>(
     rt: R,
     alloc: Global,
     token: &mut T,
     callers: u32,
-    work: &W,
-) -> Result<Vec<W::Output>, NoMemory>
+    work: &C,
+) -> Result<Vec<C::Output>, NoMemory>
     requires history { (T.state token.old).history ≡ start (start_of (T.state token.old).history) }
     requires callers { (1 ≤ callers) × (callers ≤ 8) }
 
@@ -204,8 +204,8 @@ pub fn share<T: JournaledToken + Send, W: CallerWork<R> + Sync, R: Runtime>(
     // The outputs, one for each caller.
     ensures count { IfOk result (λ outputs. vec_len outputs ≡ callers) }
     ensures outputs { IfOk result (λ outputs.
-        AllZip (IsOfCaller (W.holds work.now) (T.state token.new).history)
+        AllZip (IsOfCaller (C.holds work.now) (T.state token.new).history)
         (new_callers (start_of (T.state token.old).history) callers) outputs.items) }
 {
-    share_as::<Brand, T, W, R>(rt, alloc, token, callers, NewIdentity::new(), work)
+    share_as::<Brand, T, C, R>(rt, alloc, token, callers, NewIdentity::new(), work)
 }

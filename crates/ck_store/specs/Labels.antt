@@ -1,4 +1,5 @@
--- Marks of labels
+-- Marks of labels, by which a search passes over objects. They mirror the code; no reply depends on
+-- them.
 use Rattle.std.specs.Prelude.{◌≡◌, ◌⊎◌, ℕ, ◌+◌, ◌*◌, ◌%◌, ◌^◌, Bool, ◌==◌, ◌&&◌, not, List, Some}
 use Rattle.std.specs.Prelude.{Contains, get_or}
 use Rattle.std.specs.List.{fold}

@@ -16,12 +16,13 @@ impl<R: Wait + AllocGlobal> CallerWork<R> for ThreeSessions {
     /// How many calls of the caller were answered.
     type Output = u64;
 
+    // What is proved of each output: it is how many calls of the caller were answered.
     ghost holds = { λ work before after count. count ≡ after.count };
 
     fn act<K: TokenId, G: Gate<K>>(&self, rt: &R, gate: &G, caller: &mut Caller<K>) -> u64 {
         for _ in 0..3u32 {
             let call = Call::OpenSession { flags: READ_WRITE };
-            // A reply needs no look here: a call is counted where it was answered.
+            // The reply isn't read: the caller counts its calls that were answered.
             let _reply = gate.call(rt, rt.alloc(), caller, call);
         }
         caller.count()

@@ -67,7 +67,7 @@ impl Decision {
     ghost use Rattle.ck_journal.specs.declared.replies.Body.TheVariants as body;
     ghost use Rattle.ck_parts.specs.declared.changes.Change.TheVariants as change;
 
-    /// A call that is answered CKR_OK with no body, and changes this.
+    /// The decision to answer CKR_OK without a body, with this change.
     #[inline(always)]
     pub(crate) fn of_change(change: Change) -> Decision
         ensures { result ≡ record { rv = rv.Ok; body = body.Empty; change = change } }
@@ -79,7 +79,7 @@ impl Decision {
         }
     }
 
-    /// A call that is answered CKR_OK with this body, and changes nothing.
+    /// The decision to answer CKR_OK with this body, and to change nothing.
     #[inline(always)]
     pub(crate) fn of_body(body: Body) -> Decision
         ensures { result ≡ record { rv = rv.Ok; body = body; change = change.Nothing } }

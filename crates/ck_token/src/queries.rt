@@ -34,14 +34,14 @@ fn higher(one: Rv, other: Rv) -> Rv
 }
 
 /// The answer to a query, and the code that it has by itself.
-fn query_reply(
+fn query_answer(
     alloc: Global,
     attributes: &Record,
     query: &AttributeQuery,
 ) -> Result<(Answer, Rv), NoMemory>
-    ensures answer { IfOk result (λ reply. reply.0 ≡ query_answer attributes.now query.now) }
-    ensures code { IfOk result (λ reply.
-        reply.1 ≡ queries_code attributes.now (query.now ∷ [])) }
+    ensures answer { IfOk result (λ found. found.0 ≡ query_answer attributes.now query.now) }
+    ensures code { IfOk result (λ found.
+        found.1 ≡ queries_code attributes.now (query.now ∷ [])) }
 {
     let value = match attributes.readable(query.kind) {
         Err(error) => return Ok((Answer::Unavailable, Rv::Error(error))),
@@ -62,7 +62,7 @@ fn query_reply(
 
 /// The decision on queries of an object with these attributes: one answer for each, and one code.
 /// They change nothing. Without queries this takes no memory.
-pub(crate) fn queries_reply(
+pub(crate) fn queries_decision(
     alloc: Global,
     attributes: &Record,
     queries: &[AttributeQuery],
@@ -75,7 +75,7 @@ pub(crate) fn queries_reply(
     let mut answers = Vec::with_capacity(alloc, queries.len())?;
     let mut rv = Rv::Ok;
     for query in queries {
-        let (answer, code) = query_reply(alloc, attributes, query)?;
+        let (answer, code) = query_answer(alloc, attributes, query)?;
         answers.push(answer)?;
         rv = higher(rv, code);
     }

@@ -136,6 +136,7 @@ impl Token {
     }
 
     /// A token of a journal without entries, and of the parts that it starts with.
+    // So that the invariant is shown once for both.
     fn of(limits: Limits, parts: Parts, journal: Journal) -> Token
         requires empty { journal.history ≡ start (start_of journal.history) }
         requires agree { PartsAgree journal.history parts }

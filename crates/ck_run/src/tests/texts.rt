@@ -5,6 +5,7 @@ use ck_script::{BadLine, Line, LineError};
 use ck_token::{CallError, NoMemory, Rv, RvError, Stopped, Uncut};
 use std::alloc::Global;
 use std::fmt::Display;
+use std::io;
 use std::process::Abort;
 use std::test::Fail;
 
@@ -175,6 +176,15 @@ fn bad_arguments_say_why(rt: HostRuntime) -> Result<(), Fail> {
         &reason,
         "--callers takes a number from 1 to 8",
     )
+}
+
+/// No clause says which errors of the system are about memory.
+#[test]
+fn only_arguments_without_memory_end_with_status_3(rt: HostRuntime) {
+    for (kind, status) in [(io::ErrorKind::OutOfMemory, 3u8), (io::ErrorKind::Other, 2)] {
+        let fault = ArgumentFault::from(io::Error::from(kind));
+        assert!(&rt; fault.status() == status, "{fault}");
+    }
 }
 
 #[test]

@@ -7,7 +7,7 @@ ghost use Rattle.ck_journal.specs.Answers.{prohibited_error, transition_error};
 use super::Token;
 use super::mechanisms::check_no_parameter;
 use crate::decisions::{Decision, Refused};
-use crate::queries::queries_reply;
+use crate::queries::queries_decision;
 use ck_journal::{AttributeQuery, Body};
 use ck_objects::{Attribute, KeyState, Placement, Record, Template};
 use ck_parts::{Boxed, Change};
@@ -217,7 +217,7 @@ impl Token {
     {
         self.session(session)?;
         let (_, attributes) = self.object(object)?;
-        Ok(queries_reply(alloc, attributes, queries)?)
+        Ok(queries_decision(alloc, attributes, queries)?)
     }
 
     /// C_SetAttributeValue. Checks: CKR_SESSION_HANDLE_INVALID (b3), CKR_OBJECT_HANDLE_INVALID

@@ -75,6 +75,7 @@ impl Token {
         let view = self.view();
         let mut handles = Vec::new(alloc);
         let mut left = max;
+        // A loop, since no clause of a `collect` says when it is out of memory.
         for number in numbers {
             if left == 0 {
                 break;

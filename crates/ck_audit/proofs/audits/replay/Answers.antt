@@ -5,7 +5,7 @@ use Rattle.ck_audit.proofs.audits.replay.Goals as goal
 
 pub returns-then-not-branch : goal.returns-then-not-branch
 returns-then-not-branch g c =
-    let token = g.G.JournaledToken.state c.loop-entry.token in
+    let token = g.T.JournaledToken.state c.loop-entry.token in
     let so_far = c.loop-entry.invariant in
     let repeated = c.in_ok-repeat_call.ensures in
     let number : c.len.result ≡ entry_count token.history + 1 =

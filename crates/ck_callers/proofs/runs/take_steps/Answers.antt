@@ -9,10 +9,10 @@ loop-step-preserved g c =
       tt,
       tt,
       making_next g.S.NextStep.does g.S.NextStep.may_fail c.args.caller.now c.args.steps.items
-          c.loop-step.replies.items
+          c.loop-step.answers.items
           (into_iter_items c.loop-step.step-iterator) c.loop-step.caller c.loop-step.invariant.2
           c.in-Some.step (into_iter_items c.next.new.self) c.in-Some.ensures.steps.0
-          c.in_ok-reply.reply c.make.new.caller c.in_ok-reply.ensures.made
+          c.in_ok-answer.reply c.make.new.caller c.in_ok-answer.ensures.made
           c.push_reserved.new.self.items
           c.push_reserved.ensures.items,
       omega (
@@ -24,18 +24,18 @@ loop-step-preserved g c =
       ),
     )
 
-pub returns-in_err-reply : goal.returns-in_err-reply
-returns-in_err-reply g c =
+pub returns-in_err-answer : goal.returns-in_err-answer
+returns-in_err-answer g c =
     made_before g.S.NextStep.does g.S.NextStep.may_fail c.args.caller.now c.args.steps.items
-    c.loop-step.replies.items
+    c.loop-step.answers.items
     (into_iter_items c.loop-step.step-iterator) c.loop-step.caller c.loop-step.invariant.2
     c.in-Some.step (into_iter_items c.next.new.self) c.in-Some.ensures.steps.0
-    c.in_err-reply.ensures.memory
-    c.from_residual.result c.from_residual.ensures.0 c.make.new.caller c.in_err-reply.ensures.caller
+    c.in_err-answer.ensures.memory
+    c.from_residual.result c.from_residual.ensures.0 c.make.new.caller c.in_err-answer.ensures.caller
 
 pub returns : goal.returns
 returns g c =
     made_all g.S.NextStep.does g.S.NextStep.may_fail c.args.caller.now c.args.steps.items
-    c.loop-step.replies.items
+    c.loop-step.answers.items
     (into_iter_items c.loop-step.step-iterator) c.loop-step.caller c.loop-step.invariant.2
     (sym c.loop-step.step-iterator.rest.ok.0 ∙ c.in-None.ensures.steps.0)

@@ -4,12 +4,12 @@ use Rattle.std.specs.Vec.Iter.{into_iter_items}
 use Rattle.ck_callers.proofs.Making.{IsMaking}
 use Rattle.ck_callers.proofs.runs.take_steps.Given as goal
 
--- the steps up to those that are left were answered, and the replies to those have room
+-- the steps up to those that are left were answered, and the answers to those have room
 abbrev pub invariant-loop-step : goal.invariant-loop-step
 invariant-loop-step g l =
     (goal.iterator-loop-step g).can_next l.step-iterator
     × (goal.iterator-loop-step g).is_finite l.step-iterator
     × IsMaking g.S.NextStep.does g.S.NextStep.may_fail l.fn.caller (vec_items l.fn.steps)
-    (vec_items l.replies)
+    (vec_items l.answers)
     (into_iter_items l.step-iterator) l.caller
-    × (vec_len l.replies + length (into_iter_items l.step-iterator) ≤ vec_capacity l.replies)
+    × (vec_len l.answers + length (into_iter_items l.step-iterator) ≤ vec_capacity l.answers)

@@ -14,7 +14,7 @@ use Rattle.ck_plays.proofs.players.answer_line.Goals as goal
 pub returns-in-Ok-Skipped-clause-ok : goal.returns-in-Ok-Skipped-clause-ok
 returns-in-Ok-Skipped-clause-ok g c limits written lines h =
     answered-skipped limits written lines c.args.line.now
-    (g.G.JournaledToken.state c.args.token.now) c.args.number _
+    (g.T.JournaledToken.state c.args.token.now) c.args.number _
     (sym (c.in-Ok-Skipped.ensures.line
     ∙ ap (λ (m : Line). (let o : Option Line = Some m in o)) c.in-Ok-Skipped.field-0-is)) h
 
@@ -22,7 +22,7 @@ pub returns-in-Ok-Called-clause-ok : goal.returns-in-Ok-Called-clause-ok
 returns-in-Ok-Called-clause-ok g c =
     on_ok_weaker c.answer_call.result
     (λ called limits written lines h.
-    answered-call limits written lines c.args.line.now (g.G.JournaledToken.state c.args.token.now) _
+    answered-call limits written lines c.args.line.now (g.T.JournaledToken.state c.args.token.now) _
     c.args.number _ _
     c.in-Ok-Called.caller c.in-Ok-Called.call
     (sym (c.in-Ok-Called.ensures.line
@@ -35,7 +35,7 @@ returns-in-Ok-Called-clause-err g c =
     (λ u p. p)
     (λ f unwritten limits written lines later ended over h.
     stopped-call limits written lines later ended c.args.line.now
-    (g.G.JournaledToken.state c.args.token.now) c.args.number _ _
+    (g.T.JournaledToken.state c.args.token.now) c.args.number _ _
     c.in-Ok-Called.caller c.in-Ok-Called.call f
     (sym (c.in-Ok-Called.ensures.line
     ∙ ap (λ (m : Line). (let o : Option Line = Some m in o)) c.in-Ok-Called.field-0-is)) over h
@@ -44,7 +44,7 @@ returns-in-Ok-Called-clause-err g c =
 pub returns-in-Err-Bad-clause-err : goal.returns-in-Err-Bad-clause-err
 returns-in-Err-Bad-clause-err g c limits written lines later ended over h =
     stopped-bad limits written lines later ended c.args.line.now
-    (g.G.JournaledToken.state c.args.token.now) c.args.number _ _
+    (g.T.JournaledToken.state c.args.token.now) c.args.number _ _
     (sym (none-of_bad _ c.in-Err-Bad.field-0 _ c.in-Err-Bad.field-0-is c.in-Err-Bad.ensures.bad))
     over h
 

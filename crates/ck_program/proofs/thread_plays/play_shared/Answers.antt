@@ -25,7 +25,7 @@ unreachable-requires g c =
 
 pub returns-clause-new : goal.returns-clause-new
 returns-clause-new g c =
-    was_new c.args.calls.now (g.G.JournaledToken.state c.in-Ok.token).history g.K.TokenId.callers
+    was_new c.args.calls.now (g.T.JournaledToken.state c.in-Ok.token).history g.K.TokenId.callers
     (vec_items c.in_ok-callers.callers)
     (subst (λ (n : ℕ). 1 ≤ n) c.requires.callers.2 c.requires.callers.0) c.in-Ok.ensures.all
     c.in-Ok.ensures.settled
@@ -33,7 +33,7 @@ returns-clause-new g c =
 
 pub returns-clause-all : goal.returns-clause-all
 returns-clause-all g c number low high =
-    of_each c.args.calls.now (g.G.JournaledToken.state c.in-Ok.token).history g.K.TokenId.callers
+    of_each c.args.calls.now (g.T.JournaledToken.state c.in-Ok.token).history g.K.TokenId.callers
     (vec_items c.in_ok-callers.callers)
     c.in-Ok.ensures.all c.in-Ok.ensures.settled c.in_ok-callers.ensures.made number low
     (subst (λ (n : ℕ). number ≤ n) c.requires.callers.2 high)

@@ -5,7 +5,7 @@ use Rattle.ck_shared.proofs.sharing.act_together.Goals as goal
 
 pub returns-clause-done : goal.returns-clause-done
 returns-clause-done g c =
-    let holds = g.W.CallerWork.holds c.args.work.now in
+    let holds = g.C.CallerWork.holds c.args.work.now in
     let done = c.in_ok-done.field-0 in
     all_zip_at (λ caller d. (d.1.number ≡ caller.number) × holds caller d.1 d.0)
     (vec_items c.args.callers) (vec_items done)

@@ -33,7 +33,7 @@ returns-in-Ok-clause-callers g c =
 
 pub returns-in-Ok-clause-outputs : goal.returns-in-Ok-clause-outputs
 returns-in-Ok-clause-outputs g c =
-    let holds = g.W.CallerWork.holds c.args.work.now in
+    let holds = g.C.CallerWork.holds c.args.work.now in
     let h = (g.T.JournaledToken.state c.work_on-own.result.0).history in
     subst (λ (callers : List CallerState). IfOk c.work_on-own.result.1
     (λ outputs. AllZip (IsOfCaller holds h) callers (vec_items outputs)))

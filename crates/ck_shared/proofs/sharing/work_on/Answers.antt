@@ -46,7 +46,7 @@ returns-in-Ok-done-clause-count g c =
 
 pub returns-in-Ok-done-clause-outputs : goal.returns-in-Ok-done-clause-outputs
 returns-in-Ok-done-clause-outputs g c =
-    let holds = g.W.CallerWork.holds c.args.work.now in
+    let holds = g.C.CallerWork.holds c.args.work.now in
     let callers = vec_items c.args.callers in
     let history = (c.into_token-in-Ok-done.ensures.token ∙ c.settle_all.ensures.same) in
     subst (λ (t : TokenState). AllZip (IsOfCaller holds t.history) callers

@@ -4,7 +4,7 @@ use Rattle.ck_shared.proofs.locked.Locked.settle.Goals as goal
 
 pub returns-clause-settled : goal.returns-clause-settled
 returns-clause-settled g c =
-    let h = (g.G.JournaledToken.state c.self.inside.token).history in
+    let h = (g.T.JournaledToken.state c.self.inside.token).history in
     let front : IsFront c.args.caller.seen h =
     subst (λ seen. IsFront seen h)
     (c.front.ensures ∙ c.known.ensures ∙ ap (λ caller. caller.seen) c.show_settled.ensures.caller)

@@ -47,7 +47,7 @@ invariant_of-self-in_default g c =
 
 pub extend-requires-clause-next : goal.extend-requires-clause-next
 extend-requires-clause-next g c =
-    let token = g.G.JournaledToken.state c.self.inside.token in
+    let token = g.T.JournaledToken.state c.self.inside.token in
     let entry = entry_of token.limits token.history c.number-number.result c.args.call in
     let before : c.duplicate-front.result ≡ token.history =
     c.duplicate-front.ensures ∙ c.front.ensures ∙ c.self.invariant.0.history in
@@ -55,7 +55,7 @@ extend-requires-clause-next g c =
 
 pub follow-requires : goal.follow-requires
 follow-requires g c =
-    let token = g.G.JournaledToken.state c.self.inside.token in
+    let token = g.T.JournaledToken.state c.self.inside.token in
     let entry = entry_of token.limits token.history c.number-number.result c.args.call in
     record {
       entry = entry;
@@ -76,9 +76,9 @@ follow-requires g c =
 pub follow-requires-2 : goal.follow-requires-2
 follow-requires-2 g c =
     let caller = c.args.caller.now in
-    let h = (g.G.JournaledToken.state c.self.inside.token).history in
+    let h = (g.T.JournaledToken.state c.self.inside.token).history in
     let answered = c.in-Ok.ensures.answered in
-    let entered : (g.G.JournaledToken.state c.call_after.new.self).history
+    let entered : (g.T.JournaledToken.state c.call_after.new.self).history
     ≡ entry_by caller.number c.args.call c.in-Ok.reply ◁ h =
     answered.entered ∙ ap (λ r. entry_by c.number-number.result c.args.call r ◁ h)
     (sym answered.answered)
@@ -101,9 +101,9 @@ follow-requires-2 g c =
 
 pub publish_board-requires-2-clause-published : goal.publish_board-requires-2-clause-published
 publish_board-requires-2-clause-published g c =
-    let h = (g.G.JournaledToken.state c.self.inside.token).history in
+    let h = (g.T.JournaledToken.state c.self.inside.token).history in
     let answered = c.in-Ok.ensures.answered in
-    let entered : (g.G.JournaledToken.state c.call_after.new.self).history
+    let entered : (g.T.JournaledToken.state c.call_after.new.self).history
     ≡ entry_by c.number-number.result c.args.call c.in-Ok.reply ◁ h =
     answered.entered ∙ ap (λ r. entry_by c.number-number.result c.args.call r ◁ h)
     (sym answered.answered) in
@@ -121,9 +121,9 @@ publish_board-requires-2-clause-published g c =
 pub returns-clause-called : goal.returns-clause-called
 returns-clause-called g c =
     let caller = c.args.caller.now in
-    let h = (g.G.JournaledToken.state c.self.inside.token).history in
+    let h = (g.T.JournaledToken.state c.self.inside.token).history in
     let answered = c.in-Ok.ensures.answered in
-    let entered : (g.G.JournaledToken.state c.call_after.new.self).history
+    let entered : (g.T.JournaledToken.state c.call_after.new.self).history
     ≡ entry_by caller.number c.args.call c.in-Ok.reply ◁ h =
     answered.entered ∙ ap (λ r. entry_by c.number-number.result c.args.call r ◁ h)
     (sym answered.answered)
@@ -159,7 +159,7 @@ invariant_of-self-2 g c =
 
 pub returns-clause-answered : goal.returns-clause-answered
 returns-clause-answered g c =
-    let old = g.G.JournaledToken.state c.self.inside.token in
-    let new = g.G.JournaledToken.state c.call_after.new.self in
+    let old = g.T.JournaledToken.state c.self.inside.token in
+    let new = g.T.JournaledToken.state c.call_after.new.self in
     rw (← c.self.view_is) (subst (λ n. IsAnswered old new n c.args.call c.in-Ok.reply)
     (c.number-number.ensures.value ∙ c.account.ensures.number) c.in-Ok.ensures.answered)

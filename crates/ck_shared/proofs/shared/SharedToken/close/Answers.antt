@@ -27,7 +27,7 @@ loop-caller-preserved g c = (
 
 pub returns-clause-settled : goal.returns-clause-settled
 returns-clause-settled g c =
-    settled_last (g.G.JournaledToken.state c.into_token.result).history c.loop-caller.locked.history
+    settled_last (g.T.JournaledToken.state c.into_token.result).history c.loop-caller.locked.history
     (into_iter_items c.loop-caller.caller-iterator) (vec_items c.args.callers)
     (ap (λ t. t.history) c.into_token.ensures.token) (sym c.loop-caller.caller-iterator.rest.ok.0 ∙
     c.in-None.ensures.steps.0) c.loop-caller.invariant.2

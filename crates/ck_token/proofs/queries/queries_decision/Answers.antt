@@ -7,7 +7,7 @@ use Rattle.ck_journal.specs.Queries.{query_answer, queries_code}
 use Rattle.ck_journal.specs.declared.calls.AttributeQuery.{AttributeQuery}
 use Rattle.ck_token.specs.QueryCodes.{higher}
 use Rattle.ck_token.proofs.QueryLemmas.{code-next}
-use Rattle.ck_token.proofs.queries.queries_reply.Goals as goal
+use Rattle.ck_token.proofs.queries.queries_decision.Goals as goal
 
 pub loop-query-preserved : goal.loop-query-preserved
 loop-query-preserved c =

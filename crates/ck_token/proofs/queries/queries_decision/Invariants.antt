@@ -1,7 +1,7 @@
 use Rattle.std.proofs.Common.{◌≡◌, take}
 use Rattle.std.specs.Prelude.{map}
 use Rattle.ck_journal.specs.Queries.{query_answer, queries_code}
-use Rattle.ck_token.proofs.queries.queries_reply.Given as goal
+use Rattle.ck_token.proofs.queries.queries_decision.Given as goal
 
 -- the answers to the queries so far, and their code
 abbrev pub invariant-loop-query : goal.invariant-loop-query

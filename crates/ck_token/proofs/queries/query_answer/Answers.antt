@@ -4,7 +4,7 @@ use Rattle.std.specs.Result.{result_err}
 use Rattle.ck_journal.specs.Queries.{is_longer}
 use Rattle.ck_objects.specs.Fields.{field_bytes}
 use Rattle.ck_token.proofs.QueryLemmas.{unreadable, unreadable-code, readable-code}
-use Rattle.ck_token.proofs.queries.query_reply.Goals as goal
+use Rattle.ck_token.proofs.queries.query_answer.Goals as goal
 
 pub returns-in-Err-clause-answer : goal.returns-in-Err-clause-answer
 returns-in-Err-clause-answer c =
