@@ -203,8 +203,8 @@ impl<K: TokenId> Caller<K> {
 
     /// Answers a question as the token would have answered it after all calls that the caller knows
     /// of afterwards. It takes neither the lock nor memory and waits for nobody. `None` where the
-    /// board can't be read, lacks an entry that the caller knows and that may have changed it, or has
-    /// another count of the caller's calls. (No contract says that the last can't be.)
+    /// board can't be read, lacks an entry that the caller knows and that may have changed it, or
+    /// has another count of the caller's calls. (No contract says that the last can't be.)
     pub fn status(&mut self, ask: Ask) -> Option<Status>
         ensures answer { IfSome result (λ status.
             reply_of_status status ≡ answer K.limits self.new.seen (call_of_ask ask)) }

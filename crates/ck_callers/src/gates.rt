@@ -16,8 +16,8 @@ pub trait Gate<K: TokenId> {
     ghost use Rattle.ck_callers.specs.Asks.{call_of_ask, reply_of_status};
     ghost use Rattle.ck_callers.specs.Callers.{HasCalled};
 
-    /// Makes a call of a caller. It may wait for other callers. Where there is no memory for the call,
-    /// the caller is as it was.
+    /// Makes a call of a caller. It may wait for other callers. Where there is no memory for the
+    /// call, the caller is as it was.
     fn call<W: Wait>(
         &self,
         rt: &W,
@@ -29,8 +29,8 @@ pub trait Gate<K: TokenId> {
             HasCalled K.limits caller.old call reply caller.new) }
         ensures caller { OnErr result (caller.new ≡ caller.old) };
 
-    /// Answers a question of a caller. Unless the gate says otherwise, this is `Caller::status`, which
-    /// needs no gate.
+    /// Answers a question of a caller. Unless the gate says otherwise, this is `Caller::status`,
+    /// which needs no gate.
     fn status(&self, caller: &mut Caller<K>, ask: Ask) -> Option<Status>
         ensures answer { IfSome result (λ status.
             reply_of_status status ≡ answer K.limits caller.new.seen (call_of_ask ask)) }

@@ -147,7 +147,8 @@ impl<K: HistoryId> Front<K> {
 
     /// Adds an entry to the history where that is as long as this front, and says whether it was.
     /// The other front is then a front of the history before the entry. Only who has the `Head` can
-    /// add entries. It lies under the lock, in a private field; no contract says that it stays there.
+    /// add entries. It lies under the lock, in a private field; no contract says that it stays
+    /// there.
     pub fn add_after(&mut self, head: &Head<K>, other: &Front<K>, entry: &Entry) -> bool
         requires room { entry_count self.old < 2 ^ 64 - 1 }
         requires legal { entry.now.reply ≡ answer K.limits self.old entry.now.call }

@@ -1,8 +1,8 @@
 //! Two or three callers of a token, one of which logs in while another asks. The first logs in. The
 //! second has learnt of the calls before, and asks for the state of a session, without the lock,
-//! until it sees the login. Then it makes a call of its own, and sees a second login by asking only.
-//! A third makes no call, and asks once more after the first login. The last asks also before the
-//! first call.
+//! until it sees the login. Then it makes a call of its own, and sees a second login by asking
+//! only. A third makes no call, and asks once more after the first login. The last asks also before
+//! the first call.
 ghost use Rattle.std.specs.Prelude.{◌≡◌, ◌≤◌, IfOk};
 ghost use Rattle.ck_token.specs.Histories.{start, start_of};
 
@@ -118,8 +118,8 @@ fn state_after(entries: u64) -> &'static str {
 }
 
 /// Checks that all steps of a script were taken. With each answer comes how many entries the caller
-/// knows: the answer must be that of their state, and no entry is forgotten. With a reply the number
-/// must rise, by the entry of its call at least. Says how many questions were answered.
+/// knows: the answer must be that of their state, and no entry is forgotten. With a reply the
+/// number must rise, by the entry of its call at least. Says how many questions were answered.
 fn check_script<K: TokenId>(alloc: Global, script: &StepScript<K>) -> anyhow::Result<u64> {
     check_taken(script)?;
     let mut known = FIRST;
@@ -149,8 +149,8 @@ fn caller_at<K: TokenId>(
     callers.get_mut(index).context("a caller is missing")
 }
 
-/// Checks that a caller which makes no call, and learns, then knows this many entries and sees their
-/// state.
+/// Checks that a caller which makes no call, and learns, then knows this many entries and sees
+/// their state.
 fn check_learnt<K: TokenId>(
     alloc: Global,
     callers: &mut [Caller<K>],

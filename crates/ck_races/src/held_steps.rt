@@ -53,8 +53,8 @@ fn check_answer(alloc: Global, answer: &Answered) -> anyhow::Result<()> {
     }
 }
 
-/// Checks that all steps of a script were taken, the first of them as the entry of this number. Says
-/// how many were answered.
+/// Checks that all steps of a script were taken, the first of them as the entry of this number.
+/// Says how many were answered.
 fn check_script<K: TokenId>(
     alloc: Global,
     script: &StepScript<K>,
@@ -72,8 +72,8 @@ fn check_script<K: TokenId>(
     Ok(answers.len() as u64)
 }
 
-/// Checks that the first of two callers made its call as the entry of this number, and the second as
-/// the other of two. Says how many steps were answered.
+/// Checks that the first of two callers made its call as the entry of this number, and the second
+/// as the other of two. Says how many steps were answered.
 fn check_scripts<K: TokenId>(
     alloc: Global,
     scripts: &[StepScript<K>],
@@ -90,8 +90,8 @@ fn check_scripts<K: TokenId>(
 
 impl<'a, K: TokenId, R: Runtime> Shared<'a, K, R> {
     /// Checks that a caller that has made a call sees both sessions by asking only. Then it makes a
-    /// call that leaves sessions, logins and PINs as they are, and must be answered without the lock
-    /// as before.
+    /// call that leaves sessions, logins and PINs as they are, and must be answered without the
+    /// lock as before.
     fn check_opened(&self, caller: &mut Caller<K>) -> anyhow::Result<()> {
         let alloc = self.rt.alloc();
         if caller.seen() == 1 {

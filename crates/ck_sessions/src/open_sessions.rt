@@ -85,8 +85,8 @@ impl Session {
         Some(self.search.as_ref()?.remaining())
     }
 
-    /// The number of the object that its search returned last; 0, which is no object's, where it has
-    /// returned none, or where no search is active.
+    /// The number of the object that its search returned last; 0, which is no object's, where it
+    /// has returned none, or where no search is active.
     pub fn last_found(&self) -> u64
         ensures value { result ≡ last_found self.now }
         ensures last { (h : History) (s : ℕ) → self.now ≡ session_row h s → is_searching h s ≡ true

@@ -4,8 +4,8 @@ use Rattle.ck_journal.specs.Histories.{History}
 use Rattle.ck_callers.specs.Callers.{CallerState, IsSettled}
 
 -- `holds` is so of the caller before its work, of the caller after it and of the output; the caller
--- keeps its number, what it knows afterwards is a front of the history, and the history's entries of
--- the caller are those of its answered calls
+-- keeps its number, what it knows afterwards is a front of the history, and the history's entries
+-- of the caller are those of its answered calls
 abbrev pub IsOfCaller : {Output : Type 0} → (CallerState → CallerState → Output → Type 0)
     → History → CallerState → Output → Type 0
 IsOfCaller holds h caller output =

@@ -31,7 +31,8 @@ returns-in_err-answer g c =
     (into_iter_items c.loop-step.step-iterator) c.loop-step.caller c.loop-step.invariant.2
     c.in-Some.step (into_iter_items c.next.new.self) c.in-Some.ensures.steps.0
     c.in_err-answer.ensures.memory
-    c.from_residual.result c.from_residual.ensures.0 c.make.new.caller c.in_err-answer.ensures.caller
+    c.from_residual.result c.from_residual.ensures.0 c.make.new.caller
+    c.in_err-answer.ensures.caller
 
 pub returns : goal.returns
 returns g c =
