@@ -86,7 +86,8 @@ SILENT = {
                                    races.bad_lines, races.bad_files],
     "nothing on standard error": [program.dialogue, program.long_lists, program.long_replies,
                                   program.long_history, program.packets, program.side_by_side,
-                                  program.many_changes, program.memory, program.seldom_asleep,
+                                  program.many_changes, program.memory,
+                                  program.sessions_with_objects, program.seldom_asleep,
                                   recorded_runs.reports,
                                   recorded_runs.limits_of_first_case, recorded_runs.long_texts,
                                   races.whole_file, races.set_orders, rules.attributes,
@@ -102,6 +103,7 @@ OTHERS = (races.shapes, rules.limits, rules.checks_of_calls, rules.codes, rules.
           rules.statuses, rules.statuses_of_cases, rules.names_of_mechanisms,
           rules.names_of_arguments, rules.functions_of_programs, rules.functions_without_clauses,
           rules.laws, rules.races_of_threads, rules.sketch_of_call, rules.numbers_of_pages,
+          rules.functions_of_module, rules.clients_of_module, rules.lines_of_answers,
           figures.readings, figures.readings_of_module, figures.times_of_calls,
           figures.asks_behind_many_calls, figures.bounds, figures.bounds_of_module,
           figures.sections)
@@ -215,6 +217,16 @@ PAGES = [
     (rules.numbers_of_pages, "architecture.md", "for 25,000 ticks", "for 900,000 ticks"),
     (rules.numbers_of_pages, "module.md", "memory of 1,000 entries", "memory of 10,000 entries"),
     (rules.numbers_of_pages, "module.md", r"2\^20 \+ 1 of a single-part", "2^20 of a single-part"),
+    (rules.numbers_of_pages, "module.md", r"No memory has 2\^47", "No memory has 2^46"),
+    (rules.numbers_of_pages, "proofs.md", "140,000 sessions", "14,000 sessions"),
+    (rules.numbers_of_pages, "proofs.md", r"and\n  280,000 objects|and 280,000 objects",
+     "and 140,000 objects"),
+    (rules.numbers_of_pages, "proofs.md", "more than twice and", "more than three and"),
+    (rules.functions_of_module, "module.md", "the 20 message-based", "the 19 message-based"),
+    (rules.functions_of_module, "module.md", "C_LoginUser, ", ""),
+    (rules.clients_of_module, "module.md", "run eleven real", "run ten real"),
+    (rules.clients_of_module, "module.md", "call from 8, 16 and 32", "call from 8, 16 and 64"),
+    (rules.lines_of_answers, "proofs.md", "some 1,300 lines", "some 1,200 lines"),
 ]
 
 # Changes of sources in the folder crates with which such a page no longer agrees.
@@ -242,6 +254,9 @@ SOURCES = [
     (rules.numbers_of_pages, "../module/locking.c", "MOST_TICKS = 1000000", "MOST_TICKS = 1000"),
     (rules.numbers_of_pages, "../module/calls.c", "attributes = 1 << 20", "attributes = 1 << 18"),
     (rules.numbers_of_pages, "../module/module.h", "PARAMETER = 8,", "PARAMETER = 16,"),
+    (rules.numbers_of_pages, "../module/module.h", "CK_ULONG.1 << 47", "CK_ULONG)1 << 46"),
+    (rules.numbers_of_pages, "../tests/speed.py", "LABEL_PART = 3", "LABEL_PART = 2"),
+    (rules.functions_of_module, "../module/unsupported.c", "^CK_RV C_LoginUser", "CK_RV C_Login"),
 ]
 
 # Changes of `check` by which a part that ends isn't counted as it ends, and its status.
@@ -631,6 +646,7 @@ def changed_pages(checks):
             check_noticed(checks, pages, PAGES)
         shutil.copytree(os.path.join(ROOT, "module"), os.path.join(folder, "module"),
                         ignore=shutil.ignore_patterns("out", "tests"))
+        shutil.copytree(os.path.join(ROOT, "tests"), os.path.join(folder, "tests"))
         crates = shutil.copytree(rules.CRATES, os.path.join(folder, "crates"),
                                  ignore=shutil.ignore_patterns("out", "must-fail", "proofs"))
         with mock.patch.object(rules, "CRATES", crates):

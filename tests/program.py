@@ -118,10 +118,16 @@ EACH_CALL = [
     ("InitToken 31323334", "0"),
 ]
 
-# How many objects are created, each with a label of eight bytes, and the room for them: by
-# docs/architecture.md some 540 bytes for each with the entry of its creation, and a fifth more.
+# How many objects are created, each with a label of eight bytes; how many bytes one takes by
+# docs/architecture.md, and the entry of its creation; and the room for them, a fifth more.
 MANY_CREATED = 130_000
-ROOM_OF_CREATED = MANY_CREATED * 540 * 6 // 5
+BYTES_OF_OBJECT = 220
+BYTES_OF_CREATION = 320
+ROOM_OF_CREATED = MANY_CREATED * (BYTES_OF_OBJECT + BYTES_OF_CREATION) * 6 // 5
+
+# How many sessions have one object each, and the room for all of it.
+SESSIONS_WITH_OBJECTS = 64
+ROOM_OF_SESSIONS = 50_000_000
 
 # The bytes of a packet that one read takes whole.
 PACKET = 16_384
@@ -572,6 +578,20 @@ def memory(tests):
     tests.end("the memory of objects and of entries")
 
 
+def sessions_with_objects(tests):
+    """The list of a session's objects takes no more memory than a few objects need."""
+    def leave_room():
+        resource.setrlimit(resource.RLIMIT_AS, (ROOM_OF_SESSIONS, ROOM_OF_SESSIONS))
+
+    numbers = range(1, SESSIONS_WITH_OBJECTS + 1)
+    calls = [*["1 OpenSession 6"] * SESSIONS_WITH_OBJECTS,
+             *(f"1 CreateObject {number} 0=0000000000000000" for number in numbers)]
+    script = "".join(line + "\n" for line in ["1 InitToken 31323334", *calls]).encode()
+    replies = "0\n" + "".join(f"0 {number}\n" for number in [*numbers, *numbers])
+    tests.check([], script, replies.encode(), *PLAYED, preexec_fn=leave_room)
+    tests.end("the memory of sessions with objects")
+
+
 def many_changes(tests):
     """What a shared token takes for each call that changes sessions or logins it gives back."""
     count = 50_000
@@ -684,6 +704,7 @@ def main(program):
     callers(tests)
     audits(tests)
     memory(tests)
+    sessions_with_objects(tests)
     many_changes(tests)
     side_by_side(tests)
     seldom_asleep(tests)

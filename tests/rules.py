@@ -260,8 +260,10 @@ NAMED = ["ck_types/src/users.rt", "ck_journal/src/session_flags.rt",
          "ck_journal/src/operations.rt", "ck_objects/src/forms.rt", "ck_objects/src/attributes.rt"]
 CONSTANT = re.compile(r"^(?:pub(?:\(\w+\))? )?const (\w+): \w+ = ([\w <|]+);", re.MULTILINE)
 VARIANT = re.compile(r"^ +(?:\w+::)?(\w+) =>? (0x[0-9a-f]+|\d+|[A-Z_]{2,}),$", re.MULTILINE)
-# In C a constant, or what an `enum` has; and how a function begins.
+# In C a constant, or what an `enum` has; a definition of a number of some type; and how a function
+# begins.
 CONSTANT_IN_C = re.compile(r"(?:static const \w+|enum \{|,|^   ) (\w+) = ([\w <]+)(?=[;,]| \})")
+DEFINED_IN_C = re.compile(r"^#define (\w+) \(\(\w+\)([\w <]+)\)$")
 FUNCTION_IN_C = re.compile(r"^\w.*?\b(\w+)\(.*\{$")
 STANDARD = {"CKU_SO": 0, "CKU_USER": 1, "CKF_SERIAL_SESSION": 4, "CKF_RW_SESSION": 2,
             "CKF_DIGEST": 0x400, "CKF_SIGN": 0x800, "CKF_VERIFY": 0x2000, "CKO_DATA": 0,
@@ -385,11 +387,60 @@ NUMBERS_ON_PAGES = [
      "LONGEST_KEY"),
     ("module.md", r"PINs of (\w+) to 64 bytes", "../module/module.h", "SHORTEST_PIN"),
     ("module.md", r"PINs of 4 to (\w+) bytes", "../module/module.h", "LONGEST_PIN"),
+    ("module.md", r"No memory has (\S+) bytes", "../module/module.h", "LONGEST_MEMORY"),
+    ("DECISIONS.md", r"A journal lies in segments of (\S+) entries",
+     "ck_journal/src/entry_lists.rt", "SEGMENT"),
+    ("architecture.md", r"the long messages come behind (\S+) short calls",
+     "ck_races/src/shared_work.rt", "SHORT_CALLS"),
+    ("architecture.md", r"a label of 8 bytes takes some (\S+) bytes", "../tests/program.py",
+     "BYTES_OF_OBJECT"),
+    ("architecture.md", r"and the entry of its creation some (\d+)", "../tests/program.py",
+     "BYTES_OF_CREATION"),
+    ("proofs.md", r"templates of (\S+) items in each call", "ck_run/src/tests/long_lines.rt",
+     "MANY"),
+    ("proofs.md", r"(\S+) queries in one call", "ck_run/src/tests/long_lines.rt", "MANY"),
+    ("proofs.md", r"cuts of (\S+) entries and", "ck_run/src/tests/large_sizes.rt", "CUT"),
+    ("proofs.md", r"entries and with (\S+) objects, audits", "ck_run/src/tests/large_sizes.rt",
+     "KEPT"),
+    ("proofs.md", r"audits behind (\S+) sessions", "ck_run/src/tests/large_sizes.rt", "VISITS"),
+    ("proofs.md", r"(\S+) handles of one search", "ck_run/src/tests/large_sizes.rt", "FOUND"),
+    ("proofs.md", r"room for (\S+) entries and a run", "ck_run/src/tests/large_sizes.rt",
+     "RESERVED"),
+    ("proofs.md", r"and a run of (\S+) calls", "ck_run/src/tests/large_sizes.rt", "CALLS"),
+    ("proofs.md", r"with each mechanism and behind (\S+) calls",
+     "ck_run/src/tests/long_messages.rt", "EARLIER_CALLS"),
+    ("proofs.md", r"answered as they should be behind (\S+) calls", "../tests/program.py", "MANY"),
+    ("proofs.md", r"calls, (\S+) sessions and (?:\S+) objects", "../tests/program.py",
+     "MANY_SESSIONS"),
+    ("proofs.md", r"sessions and (\S+) objects", "../tests/program.py", "MANY_SESSIONS * 2"),
+    ("proofs.md", r"takes less than a (\w+) of one by another", "../tests/speed.py", "LABEL_PART"),
+    ("proofs.md", r"take more than (\w+) and less", "../tests/speed.py", "LEAST_GROWTH"),
+    ("proofs.md", r"and less than (\w+) times as long", "../tests/speed.py", "MOST_GROWTH"),
 ]
 
 # Numbers that pages write as words.
-NUMBER_WORDS = {"two": 2, "three": 3, "four": 4, "five": 5, "eight": 8, "ten": 10, "thirty": 30,
-                "hundred": 100}
+NUMBER_WORDS = {"two": 2, "twice": 2, "three": 3, "third": 3, "four": 4, "five": 5, "eight": 8,
+                "ten": 10, "eleven": 11, "thirty": 30, "hundred": 100}
+
+# A change of a constant, such as one more.
+CHANGED = re.compile(r"(.*?)(?: ([+*]) (\d+))?")
+
+# Constants of Python, one or more in a line.
+CONSTANTS_IN_PYTHON = re.compile(
+    r"^([A-Z_]+(?:, [A-Z_]+)*) = ([\d_]+(?:, [\d_]+)*)$", re.MULTILINE)
+
+# Functions that the module doesn't support, as its page counts them, and their names.
+KINDS_OF_FUNCTIONS = [
+    (r"the (\d+) that encrypt and decrypt", r"C_(?:En|De)crypt(?:|Init|Update|Final)"),
+    (r"the (\d+) that do two operations", r"C_[A-Z][a-z]+(?:Digest|Encrypt|Verify)Update"),
+    (r"the (\d+) of signatures with recovery", r"C_\w+Recover(?:|Init)"),
+    (r"the (\d+) message-based ones", r"C_\w*Message\w*"),
+]
+UNSUPPORTED = re.compile(
+    r"^CK_RV (C_\w+)\([^{]*\{\n    return refuse\(CKR_FUNCTION_NOT_SUPPORTED\);", re.MULTILINE)
+
+# A definition that a file of definitions names: its crate and the rest of its path.
+NAMED_DEFINITION = re.compile(r"use Rattle\.(ck_\w+)\.specs\.([\w.]+)")
 
 # The constant of a flag of the token; a user's wrong tries by which a flag is set; and a range of a
 # limit.
@@ -1144,7 +1195,7 @@ def constants_in_c(text):
         begins = FUNCTION_IN_C.match(line)
         if begins or line == "}":
             function = begins[1] + " " if begins else ""
-        for name, value in CONSTANT_IN_C.findall(line):
+        for name, value in DEFINED_IN_C.findall(line) + CONSTANT_IN_C.findall(line):
             known[function + name] = number_of(value, known)
     return known
 
@@ -1154,6 +1205,10 @@ def constants_of(path):
     text, known = read(CRATES, *path.split("/")), {}
     if path.endswith((".c", ".h")):
         return constants_in_c(text)
+    if path.endswith(".py"):
+        return {name: int(value)
+                for names, values in CONSTANTS_IN_PYTHON.findall(text)
+                for name, value in zip(names.split(", "), values.split(", "))}
     for name, value in CONSTANT.findall(text):
         known[name] = number_of(value, known)
     return known
@@ -1347,15 +1402,74 @@ def numbers_of_pages(tests):
     for page, words, path, name in NUMBERS_ON_PAGES:
         found = re.search(words, " ".join(read(DOCS, page).split()))
         number = number_in(found[1]) if found else None
-        constant = constants_of(path).get(name.removesuffix(" + 1"))
-        if constant is not None:
-            constant += name.endswith(" + 1")
+        name, sign, by = CHANGED.fullmatch(name).groups()
+        constant = constants_of(path).get(name)
+        if constant is not None and sign:
+            constant = constant + int(by) if sign == "+" else constant * int(by)
         tests.expect(number is not None and number == constant,
                      f"{page}: {words}: {number}, and {name} is {constant}")
     count = re.findall(r"It has (\d+) calls", read(DOCS, "..", "README.md"))
     there = len(rows(tests, "call | arguments"))
     tests.expect(count == [str(there)], f"README.md: {count} calls, and not {there}")
     tests.end("numbers on pages that are constants")
+
+
+def functions_of_module(tests):
+    """The page of the module counts the functions that it doesn't support, and names the others."""
+    page = " ".join(read(DOCS, "module.md").split())
+    said = re.search(r"and so do these functions: (.*?), such as C_SignMessage\.", page)[1]
+    left = {*UNSUPPORTED.findall(read(CRATES, "..", "module", "unsupported.c"))}
+    for words, kind in KINDS_OF_FUNCTIONS:
+        of_kind = {name for name in left if re.fullmatch(kind, name)}
+        count = re.search(words, said)
+        tests.expect(count and int(count[1]) == len(of_kind), f"{words}: {len(of_kind)}")
+        left -= of_kind
+    named = {*re.findall(r"C_\w+", re.sub(r"such as C_\w+", "", said))}
+    tests.expect(named == left, f"the page names {named ^ left} or doesn't")
+    tests.end("functions that the module doesn't support")
+
+
+def clients_of_module(tests):
+    """The page of the module says how many clients are tried, and in how many threads."""
+    page = " ".join(read(DOCS, "module.md").split())
+    clients = read(CRATES, "..", "module", "tests", "clients.py")
+    tried = len(re.findall(r'"\w+": use_', clients))
+    kept = len(re.search(r"^RECORDED = \[(.*)\]", clients, re.MULTILINE)[1].split(", "))
+    for words, wanted in [(r"and run (\w+) real clients", tried),
+                          (r"and (\w+) of these runs are kept", kept)]:
+        found = re.search(words, page)
+        tests.expect(found and number_in(found[1]) == wanted, f"{words}: {wanted}")
+    of_threads = read(CRATES, "..", "module", "tests", "run")
+    counts = {int(number) for line in re.findall(
+        r'for count in ([\d ]+);|"\$folder/thread\.so" (\d+) ', of_threads)
+              for number in " ".join(line).split()}
+    said = re.search(r"call from (\d+), (\d+) and (\d+) threads", page)
+    tests.expect(said and [int(it) for it in said.groups()] == sorted(counts), f"threads: {counts}")
+    tests.end("clients and threads of the module's tests")
+
+
+def files_of_definition(path, known):
+    """Adds a file of definitions to those that are known, and those that it names."""
+    if path in known or not os.path.exists(path):
+        return
+    known.add(path)
+    for crate, rest in NAMED_DEFINITION.findall(read(path)):
+        parts = rest.strip(".").split(".")
+        for count in range(1, len(parts) + 1):
+            file = os.path.join(CRATES, crate, "specs", *parts[:count]) + ".antt"
+            files_of_definition(file, known)
+
+
+def lines_of_answers(tests):
+    """The page of proofs says how many lines `answer` rests on: of its file, and of those that it
+    names, without empty lines, comments and lines `use`."""
+    known = set()
+    files_of_definition(os.path.join(CRATES, "ck_journal", "specs", "Answers.antt"), known)
+    lines = [line for path in known for line in read(path).split("\n")
+             if line.strip() and not line.lstrip().startswith(("--", "use "))]
+    said = re.search(r"ck_types: some (\S+) lines", " ".join(read(DOCS, "proofs.md").split()))
+    tests.expect(said and abs(number_in(said[1]) - len(lines)) < 50, f"{len(lines)} lines")
+    tests.end("lines on which answers rest")
 
 
 def main(path):
@@ -1390,6 +1504,9 @@ def main(path):
     races_of_threads(tests)
     sketch_of_call(tests)
     numbers_of_pages(tests)
+    functions_of_module(tests)
+    clients_of_module(tests)
+    lines_of_answers(tests)
     return tests.status()
 
 

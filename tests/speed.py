@@ -22,6 +22,11 @@ TRIES, MOST_TRIES = 3, 12
 FEWER, FEW, MANY, MOST = 5_000, 20_000, 80_000, 280_000
 SEARCHES, SEARCHES_OF_MOST = 2_000, 60
 
+# How much of the time of another search one by a label takes at most, and between which times as
+# much four times as many take.
+LABEL_PART = 3
+LEAST_GROWTH, MOST_GROWTH = 2, 8
+
 # What stands before and behind the number in a long label.
 LONG_FRONT, LONG_END = "61" * 14, "62" * 14
 
@@ -142,7 +147,7 @@ def long_template(count):
 
 def is_faster_by_label(before, with_labels, with_others):
     """Whether searches by a label take less than a third of the time of as many others."""
-    return (with_labels - before) * 3 < with_others - before
+    return (with_labels - before) * LABEL_PART < with_others - before
 
 
 def label_searches(tests):
@@ -192,7 +197,8 @@ EVEN = [
 def grows_evenly(*times):
     """Whether each four times as many take more than twice as long, and less than eight times.
     Where they take less, it is the fewer that take too long."""
-    return all(2 * few < many < 8 * few for few, many in zip(times, times[1:]))
+    return all(LEAST_GROWTH * few < many < MOST_GROWTH * few
+               for few, many in zip(times, times[1:]))
 
 
 def even_times(tests):

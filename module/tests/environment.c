@@ -394,6 +394,21 @@ static void test_control_bytes(void) {
     check(strcmp(text, "ospreyrack: OSPREYRACK_?: there is no such variable\n") == 0, text);
 }
 
+/* Of a value that is too long for the line the beginning is shown. */
+static void test_long_value(void) {
+    enum { VALUE = 20000, LINE = 8191 };
+    static char value[VALUE + 1], text[VALUE];
+    memset(value, 'x', VALUE);
+    setenv("OSPREYRACK_SEED", value, 1);
+    keep_errors();
+    CK_RV code = p11->C_Initialize(NULL);
+    size_t count = read_errors(text, sizeof text);
+    unsetenv("OSPREYRACK_SEED");
+    EXPECT(CKR_GENERAL_ERROR, code);
+    CHECK(count == LINE);
+    CHECK(strchr(text, '\n') == text + count - 1);
+}
+
 /* The application may have cleared its environment by this. */
 static void test_no_environment(void) {
     char **kept = environ;
@@ -490,6 +505,32 @@ static void test_bad_files(void) {
                         ": OSPREYRACK_TOKEN is a journal: set only one of the two\n");
     CHECK(!is_there("unused_too.cases"));
     unsetenv("OSPREYRACK_TOKEN");
+}
+
+static int count_open_files(void) {
+    enum { MOST_FILES = 1024 };
+    int count = 0;
+    for (int file = 0; file < MOST_FILES; file++)
+        count += fcntl(file, F_GETFD) >= 0;
+    return count;
+}
+
+/* The script is closed when it is read, also where one of its lines is bad. */
+static void test_closed_script(void) {
+    char text[2000];
+    write_file("closed_script", script);
+    setenv("OSPREYRACK_SCRIPT", path_of("closed_script"), 1);
+    int before = count_open_files();
+    EXPECT(CKR_OK, p11->C_Initialize(NULL));
+    CHECK(count_open_files() == before);
+    EXPECT(CKR_OK, p11->C_Finalize(NULL));
+    write_file("closed_script", bad_reply);
+    keep_errors();
+    CK_RV code = p11->C_Initialize(NULL);
+    read_errors(text, sizeof text);
+    unsetenv("OSPREYRACK_SCRIPT");
+    EXPECT(CKR_GENERAL_ERROR, code);
+    CHECK(count_open_files() == before);
 }
 
 /* ---- The application's signals. What the module writes may raise two of them. */
@@ -622,10 +663,12 @@ static const struct test tests[] = {
     {"what the system says when the file is closed is told", test_failed_close},
     {"bad environment variables, and then none", test_bad_variables},
     {"control bytes in environment variables and in files", test_control_bytes},
+    {"an environment variable whose value is longer than a line", test_long_value},
     {"an environment that is NULL", test_no_environment},
     {"a bad environment variable and the application's mutex", test_bad_variable_and_mutexes},
     {"bad files in environment variables, and then none", test_bad_files},
     {"a file that is no journal is left as it is", test_no_journals},
+    {"the script is closed when it is read", test_closed_script},
     {"the signals that the application has blocked are the same behind calls", test_signals},
     {"a signal that the application has blocked stays pending", test_pending_signal},
     {"no memory is lost, by C_Finalize or by a C_Initialize that fails", test_leaks},

@@ -1367,20 +1367,53 @@ static void test_small_stack(void) {
     unsetenv("OSPREYRACK_SCRIPT");
 }
 
+/* ---- Lines on standard error */
+
+/* What the module writes to standard error goes to a file until `read_errors`. */
+static const char errors[] = "errors";
+static int hidden_errors = -1;
+
+static void keep_errors(void) {
+    int file = open(errors, O_WRONLY | O_CREAT | O_TRUNC, 0600);
+    hidden_errors = dup(STDERR_FILENO);
+    if (file < 0 || hidden_errors < 0 || dup2(file, STDERR_FILENO) < 0)
+        exit(2);
+    close(file);
+}
+
+static void read_errors(char *said, size_t room) {
+    dup2(hidden_errors, STDERR_FILENO);
+    close(hidden_errors);
+    FILE *file = fopen(errors, "r");
+    if (file == NULL)
+        exit(2);
+    said[fread(said, 1, room - 1, file)] = '\0';
+    fclose(file);
+}
+
 /* ---- Growths of C_Initialize */
 
 static const char script[] = "growths.script";
 static const char kept[] = "kept.cases";
 
+static const char label_of_script[] = "a label                         ";
+
 static void write_script(void) {
-    write_file(script, "1 InitToken 31323334\n1 OpenSession 6\n"
+    write_file(script, "# label 61206c6162656c"
+               "20202020202020202020202020202020202020202020202020\n"
+               "1 InitToken 31323334\n1 OpenSession 6\n"
                "1 CreateObject 1 0=0000000000000000,1=01,2=00,3=6c6162656c -> 0 1\n", "w");
 }
 
-/* The token of the script: it is initialized, and has one object. */
+/* The token of the script: it is initialized, has its label and one object, and no session is
+ * open. */
 static void check_token(void) {
     CK_OBJECT_HANDLE found[2] = {0};
     CK_ULONG count = 0;
+    CK_TOKEN_INFO info;
+    EXPECT(CKR_OK, p11->C_GetTokenInfo(0, &info));
+    CHECK(memcmp(info.label, label_of_script, sizeof info.label) == 0);
+    CHECK(info.ulSessionCount == 0);
     EXPECT(CKR_OK, p11->C_OpenSession(0, CKF_SERIAL_SESSION, NULL, NULL, &session));
     EXPECT(CKR_OK, p11->C_FindObjectsInit(session, NULL, 0));
     EXPECT(CKR_OK, p11->C_FindObjects(session, found, 2, &count));
@@ -1400,30 +1433,89 @@ static void begin_with_file(void) {
         exit(2);
 }
 
+/* What the line on standard error ends with, by what there is no memory for. */
+static const char *const lacks[] = {
+    "there is no memory for the name\n", "there is no memory for the journal\n",
+    "there is no memory to read the file\n", "there is no memory for the line\n",
+    "there is no memory for the label\n", "there is no memory for the call\n",
+    "there is no memory for the reply\n",
+};
+
+enum { LACKS = sizeof lacks / sizeof *lacks };
+
+static bool is_told[LACKS];
+
+/* It is one line, and names the variable. */
+static void check_told(const char *said) {
+    static const char start[] = "ospreyrack: OSPREYRACK_";
+    bool is_known = false;
+    for (size_t i = 0; i < LACKS; i++) {
+        size_t length = strlen(said), end = strlen(lacks[i]);
+        bool is_this = length >= end && strcmp(said + length - end, lacks[i]) == 0;
+        is_told[i] |= is_this;
+        is_known |= is_this;
+    }
+    check(is_known && strncmp(said, start, strlen(start)) == 0
+          && strchr(said, '\n') == said + strlen(said) - 1, said);
+}
+
+/* What the file has in the end where nothing is refused. */
+static char expected_file[4000];
+
+static void read_journal(char *content, size_t room) {
+    FILE *file = fopen(journal, "r");
+    if (file == NULL)
+        exit(2);
+    content[fread(content, 1, room - 1, file)] = '\0';
+    fclose(file);
+}
+
+static void note_expected_file(void) {
+    EXPECT(CKR_OK, p11->C_Initialize(NULL));
+    check_token();
+    EXPECT(CKR_OK, p11->C_Finalize(NULL));
+    if (has_journal)
+        read_journal(expected_file, sizeof expected_file);
+}
+
+static void check_file(void) {
+    char content[sizeof expected_file];
+    read_journal(content, sizeof content);
+    check(strcmp(content, expected_file) == 0, content);
+}
+
 /* The library's first allocations are for the token and for a call with a message. What else lacks
  * memory is work on what the environment says. */
 static bool try_initialize(long number) {
+    char said[1000];
     off_t length = length_of(journal);
+    keep_errors();
     live_at_start = live_allocations;
     refuse_after(number);
     CK_RV code = p11->C_Initialize(NULL);
     bool was_refused = stop_refusing();
+    read_errors(said, sizeof said);
     if (was_refused && code != CKR_OK) {
         check_code(code, number < 2 ? CKR_HOST_MEMORY : CKR_GENERAL_ERROR,
                    "C_Initialize without memory");
+        if (code == CKR_GENERAL_ERROR)
+            check_told(said);
         check(length_of(journal) == length, "C_Initialize that fails leaves the file");
         check(live_allocations == live_at_start, "C_Initialize that fails gives all memory back");
         code = p11->C_Initialize(NULL);
     }
     check_code(code, CKR_OK, "C_Initialize");
-    check(!has_journal || length_of(journal) > 0, "the file has the name that is given");
     check_token();
     end_library();
+    if (has_journal)
+        check_file();
     return was_refused;
 }
 
 static void check_initialize(void (*prepare)(void)) {
     long number = 0;
+    prepare();
+    note_expected_file();
     prepare();
     while (number < MOST_GROWTHS && try_initialize(number)) {
         prepare();
@@ -1456,6 +1548,26 @@ static void test_initialize(void) {
     check_initialize(begin_with_file);
     unsetenv("OSPREYRACK_TOKEN");
     check_expanded_name();
+    unsetenv("OSPREYRACK_SCRIPT");
+    for (size_t i = 0; i < LACKS; i++)
+        check(is_told[i], lacks[i]);
+}
+
+/* A reply that isn't the script's is told, whatever there is no memory for. */
+static void test_wrong_reply(void) {
+    long number = 0;
+    bool was_refused = true;
+    write_file(script, "1 InitToken 31323334\n1 OpenSession 6 -> 0 2\n", "w");
+    setenv("OSPREYRACK_SCRIPT", script, 1);
+    while (was_refused && number < MOST_GROWTHS) {
+        refuse_after(number);
+        CK_RV code = p11->C_Initialize(NULL);
+        was_refused = stop_refusing();
+        check_code(code, was_refused && number < 2 ? CKR_HOST_MEMORY : CKR_GENERAL_ERROR,
+                   "C_Initialize with a wrong reply");
+        number++;
+    }
+    CHECK(number > 2 && number < MOST_GROWTHS);
     unsetenv("OSPREYRACK_SCRIPT");
 }
 
@@ -1666,28 +1778,6 @@ static void test_interrupted_wait(void) {
     unsetenv("OSPREYRACK_JOURNAL");
 }
 
-/* What the module writes to standard error goes to a file until `read_errors`. */
-static const char errors[] = "errors";
-static int hidden_errors = -1;
-
-static void keep_errors(void) {
-    int file = open(errors, O_WRONLY | O_CREAT | O_TRUNC, 0600);
-    hidden_errors = dup(STDERR_FILENO);
-    if (file < 0 || hidden_errors < 0 || dup2(file, STDERR_FILENO) < 0)
-        exit(2);
-    close(file);
-}
-
-static void read_errors(char *said, size_t room) {
-    dup2(hidden_errors, STDERR_FILENO);
-    close(hidden_errors);
-    FILE *file = fopen(errors, "r");
-    if (file == NULL)
-        exit(2);
-    said[fread(said, 1, room - 1, file)] = '\0';
-    fclose(file);
-}
-
 /* A call's line is written in parts where the file takes no more at once. */
 static void test_short_writes(void) {
     struct result ignored;
@@ -1829,12 +1919,72 @@ static void test_call_behind_end(void) {
     check(status_of_child(end_as_child) == 0, "a call behind the end of a library without a file");
 }
 
+/* A thread that waits in the application's lock, of which it has told by a byte in this pipe. */
+static int ends_of_wait[2];
+static bool stops_in_lock;
+
+static CK_RV wait_in_lock(CK_VOID_PTR mutex) {
+    if (stops_in_lock) {
+        if (write(ends_of_wait[1], "x", 1) != 1)
+            _exit(5);
+        for (;;)
+            pause();
+    }
+    return leave_mutex(mutex);
+}
+
+static void *call_in_lock(void *ignored) {
+    struct result result;
+    get_token_info(&result);
+    return ignored;
+}
+
+/* Behind the library's end the file still has its descriptor, which the thread may write to. */
+static ssize_t see_file_behind_end(void *cookie, const char *bytes, size_t length) {
+    struct stat of_descriptor, of_file;
+    (void)cookie, (void)bytes, (void)length;
+    _exit(syscall(SYS_fstat, journal_descriptor, &of_descriptor) == 0
+          && stat(journal, &of_file) == 0 && of_descriptor.st_ino == of_file.st_ino ? 0 : 1);
+}
+
+static void end_beside_call(void) {
+    const cookie_io_functions_t functions = {.write = see_file_behind_end};
+    CK_C_INITIALIZE_ARGS arguments = {
+        .CreateMutex = create_mutex,
+        .DestroyMutex = leave_mutex,
+        .LockMutex = wait_in_lock,
+        .UnlockMutex = leave_mutex,
+    };
+    pthread_t thread;
+    char byte;
+    FILE *stream = fopencookie(NULL, "w", functions);
+    if (stream == NULL || fputs("text", stream) < 0 || pipe(ends_of_wait) != 0)
+        _exit(2);
+    journal_descriptor = open(other_file, O_RDWR | O_CREAT, 0600);
+    close(journal_descriptor);
+    if (p11->C_Initialize(&arguments) != CKR_OK)
+        _exit(3);
+    stops_in_lock = true;
+    if (pthread_create(&thread, NULL, call_in_lock, NULL) != 0
+        || read(ends_of_wait[0], &byte, 1) != 1)
+        _exit(4);
+    exit(6);
+}
+
+static void test_end_beside_call(void) {
+    unlink(journal);
+    setenv("OSPREYRACK_JOURNAL", journal, 1);
+    check(status_of_child(end_beside_call) == 0, "the end of a process beside a call");
+    unsetenv("OSPREYRACK_JOURNAL");
+}
+
 static const struct test tests[] = {
     {"each growth of 43 calls is refused, typed", test_typed},
     {"each growth of 43 calls is refused, by lines", test_by_lines},
     {"each call's line is written when it is answered, and at once", test_lines},
     {"lines of all lengths end where there is no memory for their replies", test_line_ends},
     {"each growth of C_Initialize is refused, with a script and a file", test_initialize},
+    {"a script with a wrong reply, and each growth of C_Initialize is refused", test_wrong_reply},
     {"each growth of C_Initialize is refused, with the application's mutexes", test_mutexes},
     {"C_Initialize where the system refuses the library's function for forks", test_registration},
     {"C_Initialize on the smallest stack tells of bad lines", test_small_stack},
@@ -1869,6 +2019,8 @@ static const struct test tests[] = {
     {"a line that is written in part, and a part that can't be cut off", test_parts},
     {"a file whose status can't be read, and one that can't be locked", test_faults_of_file},
     {"a call behind the library's end writes nothing to another file", test_call_behind_end},
+    {"a call under the application's lock keeps the file at the library's end",
+     test_end_beside_call},
 };
 
 /* The module's lines on standard error are for nobody here; those of the checks are written. */

@@ -460,6 +460,8 @@ class Tests:
         self.end()
         name = self.file(f"%-%{numbers[0] + 3}-%x.cases")
         self.checks.check(os.path.exists(name), "a % before another letter stays")
+        Worker(self.path, JOURNAL=self.file("first-%n.cases")).end()
+        self.checks.check(os.path.exists(self.file("first-1.cases")), "a process begins at 1")
 
     def test_mode(self):
         """Only its owner reads and writes the file, whatever the process leaves to others."""
