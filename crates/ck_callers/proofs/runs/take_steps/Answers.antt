@@ -12,7 +12,7 @@ loop-step-preserved g c =
           c.loop-step.answers.items
           (into_iter_items c.loop-step.step-iterator) c.loop-step.caller c.loop-step.invariant.2
           c.in-Some.step (into_iter_items c.next.new.self) c.in-Some.ensures.steps.0
-          c.in_ok-answer.reply c.make.new.caller c.in_ok-answer.ensures.made
+          c.in_ok-answer.answer c.make.new.caller c.in_ok-answer.ensures.made
           c.push_reserved.new.self.items
           c.push_reserved.ensures.items,
       omega (
