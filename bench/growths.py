@@ -24,8 +24,12 @@ these are played.
 
 Calls for which room in the journal is reserved are made while every growth is refused.
 
-What is made again in a case is counted also where another case follows. And what a cut takes out is
-audited, as it was before the cut, which takes memory for each call with bytes.
+What is made again in a case is counted also where another case follows. What a cut takes out is
+audited, as it was before the cut, which takes memory for each call with bytes; a cut that is
+refused takes none for the objects. A refused creation takes no memory for its object, and a value
+of which only the length is asked, or for which there is too little room, none either. The help, a
+reason for bad arguments and one for a bad name are written whole, or the program says that it is
+out of memory; the nearest name may lack.
 
 Each run without a refused growth must have growths, and in all some must be refused and something
 made again: else the library that refuses them isn't loaded.
@@ -75,6 +79,27 @@ MEMORY_ERRORS = (
 # These are far fewer where cases, races or growths are passed over.
 LEAST_OF_SHORT = 20_000
 LEAST_MADE_AGAIN = 2_000
+
+# Calls that create objects, each with bytes that a copy takes memory for.
+CREATED = 50
+CREATIONS = ["1 InitToken 31323334 -> 0", "1 OpenSession 6 -> 0 1", *(
+    f"1 CreateObject 1 0=0000000000000000,3={'61' * 100} -> 0 {number}"
+    for number in range(1, CREATED + 1))]
+
+# Calls that are answered with as many growths as one another, behind these first ones: of queries,
+# and of creations that are refused.
+VALUE = f"11={'61' * 100}"
+FIRST = f"1 InitToken 31323334\n1 OpenSession 6\n1 CreateObject 1 0=0000000000000000,{VALUE}\n"
+PRIVATE = f"0=0000000000000000,2=01,{VALUE}"
+ALIKE = [
+    [f"1 GetAttributeValue 1 1 {query}" for query in ("10:?", "11:?", "11:5")],
+    [f"1 CreateObject 2 {PRIVATE}", f"1 CreateObject 1 {PRIVATE}"],
+]
+
+# Words of ck_run and a script for which it writes a text, and what may lack of that.
+TEXTS = [(["--help"], b"", b""), (["--nothing"], b"", b""),
+         ([], b"1 Logn 1 1 31\n", b", the nearest is Login")]
+NO_MEMORY = (3, b"", b"ck_run: out of memory\n")
 
 # A call that takes memory each time it is made, also in an audit, and how many of them are cut.
 CALL = "1 Digest 1 616263 32 -> b3"
@@ -262,6 +287,44 @@ def check_cut(library):
     return 0, 0, []
 
 
+def check_refused_cut(library):
+    """A cut that is refused, since a session is open, makes no copies of the objects."""
+    growths = []
+    for lines in (CREATIONS, [*CREATIONS, "cut -> a session is open"]):
+        with file_of(lines) as path:
+            ended = play(library, [CASES, path], b"", 0)
+            if ended.output != f"{path}: {len(lines)} passed\n".encode():
+                return 0, 0, [f"objects and a refused cut: {ended}"]
+            growths.append(ended.growths)
+    if growths[1] >= growths[0] + CREATED:
+        return 0, 0, [f"objects have {growths[0]} growths, and {growths[1]} with a refused cut"]
+    return 0, 0, []
+
+
+def check_alike(library):
+    """Calls have as many growths as one another."""
+    faults = []
+    for calls in ALIKE:
+        growths = [play(library, [SCRIPTS], f"{FIRST}{call}\n".encode(), 0).growths
+                   for call in calls]
+        if len({*growths}) != 1 or growths[0] == 0:
+            faults.append(f"{calls} have {growths} growths")
+    return 0, 0, faults
+
+
+def check_text(library, words, script, may_lack):
+    """A text is written whole, or the program is out of memory."""
+    plain = play(library, [SCRIPTS, *words], script, 0)
+    rights = (plain[:3], (plain.status, plain.output, plain.errors.replace(may_lack, b"")),
+              NO_MEMORY)
+    faults = [] if plain.growths > 0 and plain[:3] != NO_MEMORY else [f"{words}: {plain}"]
+    for growth in range(1, plain.growths + 1):
+        ended = play(library, [SCRIPTS, *words], script, growth)
+        if ended[:3] not in rights:
+            faults.append(f"{words} {script}, growth {growth}: {ended}")
+    return plain.growths, 0, faults
+
+
 def checks_of_case(library, name, lines, step):
     """What is checked of a case: functions, each with its arguments."""
     yield check_case, library, [CASES], name, lines, len(lines) - 1, step
@@ -293,6 +356,15 @@ def checks_of_counts(library):
     """What is checked of counts of a whole file: functions, each with its arguments."""
     yield check_next_case, library
     yield check_cut, library
+    yield check_refused_cut, library
+
+
+def checks_of_scripts(library):
+    """What is checked of growths of short scripts, and of texts: functions, each with its
+    arguments."""
+    yield check_alike, library
+    for words, script, may_lack in TEXTS:
+        yield check_text, library, words, script, may_lack
 
 
 def main(paths, races, is_short=False):
@@ -304,7 +376,7 @@ def main(paths, races, is_short=False):
         for path in paths:
             checks += checks_of_file(library, path, 1 if path == GROWING else case_step)
         if paths:
-            checks += checks_of_counts(library)
+            checks += [*checks_of_counts(library), *checks_of_scripts(library)]
         results = [made.result() for made in [pool.submit(*check) for check in checks]]
     faults = [fault for _, _, of_case in results for fault in of_case]
     growths = sum(refused for refused, _, _ in results)

@@ -59,6 +59,7 @@ WRONG_FOR_ONE = [
       for front in ("^0 1,2,", "^0 :0,:0,")),
     (program.long_history, f'head -n {5 * FEW_CALLS} | "$1"'),
     (program.packets, 'right=$1; shift; dd bs=64 status=none | "$right" "$@"'),
+    (program.single_writes, 'right=$1; shift; "$right" "$@" | dd bs=16 status=none'),
     (program.memory, f'ulimit -v {program.ROOM_OF_CREATED // 1_536}; {RIGHT}'),
 ]
 
@@ -86,7 +87,7 @@ SILENT = {
                                    races.bad_lines, races.bad_files],
     "nothing on standard error": [program.dialogue, program.long_lists, program.long_replies,
                                   program.long_history, program.packets, program.side_by_side,
-                                  program.many_changes, program.memory,
+                                  program.many_changes, program.memory, program.single_writes,
                                   program.sessions_with_objects, program.seldom_asleep,
                                   recorded_runs.reports,
                                   recorded_runs.limits_of_first_case, recorded_runs.long_texts,
@@ -454,6 +455,7 @@ case "$*" in
 "") echo "0 4 64 0 0" ;;
 --callers*) echo "entries 1"; echo "audit ok" ;;
 reserve*) ;;
+--help | --nothing) echo "a text" ;;
 *) echo "$file: $lines passed$again" ;;
 esac
 """
@@ -466,11 +468,36 @@ GROWING_ENDS = [(9, 9, 9), (9, 0, 9), (9, 0, 9), (9, 9, 9), (0, 0, 1)]
 
 # How many growths the program has for each line, what it does where one is refused, and how many
 # faults are found of what it counts. First it is right, and then it forgets what was made again in
-# the case before, or has no more growths with a cut than without.
+# the case before, has no more growths with a cut than without, or many with one that is refused.
 COUNTING = [
-    ("9", MADE_AGAIN, [0, 0]),
-    ("9", f'[ $(/bin/grep -c "^limits" "$file") = 2 ] || {MADE_AGAIN}', [1, 0]),
-    ("9 / lines", MADE_AGAIN, [0, 1]),
+    ("9", MADE_AGAIN, [0, 0, 0]),
+    ("9", f'[ $(/bin/grep -c "^limits" "$file") = 2 ] || {MADE_AGAIN}', [1, 0, 0]),
+    ("9 / lines", MADE_AGAIN, [0, 1, 0]),
+    (f"(lines > {len(growths.CREATIONS)} ? 20 : 9)", MADE_AGAIN, [0, 0, 1]),
+]
+
+# A program that writes texts as it must, and says that it has this many growths. Where one of them
+# is refused it first does something else.
+TELLING = """\
+shift
+script=$(/bin/cat)
+printf %s >&3
+[ "$REFUSED_GROWTH" = 0 ] || { %s; }
+case "$*$script" in
+--help) echo "how it is used" ;;
+--nothing) echo "ck_run: bad arguments" >&2; exit 2 ;;
+*Logn*) echo "ck_run: line 1: bad, the nearest is Login" >&2; exit 1 ;;
+esac
+"""
+
+# How many growths it has, what it does where one is refused, and how many faults are found.
+TOLD = [
+    ("9", ":", [0, 0, 0, 0]),
+    ("9", 'echo "ck_run: out of memory" >&2; exit 3', [0, 0, 0, 0]),
+    ("9", 'echo "ck_run: line 1: bad" >&2; exit 1', [0, 9, 9, 0]),
+    ("9", "exit 0", [0, 9, 9, 9]),
+    ("0", ":", [2, 1, 1, 1]),
+    ('$(case "$script" in *11:?* | *"Object 2"*) echo 8 ;; *) echo 9 ;; esac)', ":", [2, 0, 0, 0]),
 ]
 
 # What is wrong then.
@@ -759,6 +786,13 @@ def faults_of_counts(folder, count, refused):
     return [len(check(*arguments)[2]) for check, *arguments in growths.checks_of_counts("")]
 
 
+def faults_of_scripts(folder, count, refused):
+    """How many faults are found of a program's texts that has this many growths, and does this
+    where one is refused."""
+    growths.SCRIPTS = write_program(folder, TELLING % (count, refused), "/bin/true")
+    return [len(check(*arguments)[2]) for check, *arguments in growths.checks_of_scripts("")]
+
+
 def status_of_short(path, least, least_again):
     """How growths.py ends with the argument `short`, where this many growths must be refused, and
     something made again after this many."""
@@ -778,6 +812,9 @@ def judged_growths(checks):
         for count, refused, faults in COUNTING:
             came = faults_of_counts(folder, count, refused)
             checks.expect(came == faults, f"{count}, {refused}: {came} faults of counts")
+        for count, refused, faults in TOLD:
+            came = faults_of_scripts(folder, count, refused)
+            checks.expect(came == faults, f"{count}, {refused}: {came} faults of texts")
         came = growths_of(folder, 9, MADE_AGAIN)
         checks.expect(came == [(*ends, 0) for *ends, _ in GROWING_ENDS], f"made again: {came}")
         path = os.path.join(folder, "a.cases")

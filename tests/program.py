@@ -130,7 +130,7 @@ SESSIONS_WITH_OBJECTS = 64
 ROOM_OF_SESSIONS = 50_000_000
 
 # The bytes of a packet that one read takes whole.
-PACKET = 16_384
+PACKET = 65_536
 
 # Short calls of callers in threads, and how many times they may sleep together.
 MANY_SHORT = 400_000
@@ -271,12 +271,15 @@ LINES_WITH_FAULTS = [
     (b"1 CreateObject 1 3,0x3=00", NO_TEMPLATE),
 ]
 
-# A name with two letters too many, or three, after the longest name and the front of the standard.
+# A name with two letters too many, or three, after the longest name and the front of the standard;
+# one that is too long; and one in which letters that stand side by side are exchanged twice, which
+# are three changes.
 NAMES = [
     (b"C_GetAttributeValues", NO_CALL + b", the nearest is GetAttributeValue"),
     (b"c_getattributevaluexx", NO_CALL + b", the nearest is GetAttributeValue"),
     (b"C_GetAttributeValuexxx", NO_CALL),
     (b"GetAttributeValue" + b"x" * 8, NO_CALL),
+    (b"Lgoni", NO_CALL),
 ]
 
 # Lines that are written one after the other, each once the reply to the one before has come.
@@ -284,6 +287,8 @@ DIALOGUE = [
     (b"1 InitToken 31323334\n", b"0\n"),
     (b"1 OpenSession 6\n", b"0 1\n"),
     (b"# x\n1 GetTokenInfo\n", b"0 404 64 1 1\n"),
+    (b"1 GetTokenInfo\n1 GetTok", b"0 404 64 1 1\n"),
+    (b"enInfo\n", b"0 404 64 1 1\n"),
 ]
 
 # How the program ends: what it writes to standard error, and its status.
@@ -529,6 +534,23 @@ def packets(tests):
     tests.end("packets are read whole")
 
 
+def single_writes(tests):
+    """A reply is one write, and so are the two lines of callers: who reads packets gets them
+    whole."""
+    script = b"1 InitToken 31323334\n1 GetMechanismList\n1 GetTokenInfo\n"
+    mechanisms = b"0 250,251,252,255,256,257,260,261,262,270,271,272,350\n"
+    for words, wanted in (([], [b"0\n", mechanisms, b"0 404 64 0 0\n"]),
+                          (["--callers", "1"], [b"entries 3\naudit ok\n"])):
+        ours, theirs = socket.socketpair(socket.AF_UNIX, socket.SOCK_SEQPACKET)
+        with ours, theirs:
+            _, errors, status = tests.run(words, script, stdout=theirs)
+            theirs.close()
+            packets_of_run = list(iter(lambda: ours.recv(PACKET), b""))
+        tests.expect((packets_of_run, errors, status) == (wanted, *PLAYED),
+                     f"{words}: {packets_of_run}, {errors}, {status}")
+    tests.end("replies are written whole")
+
+
 def callers(tests):
     for words in (["--callers", "2"], ["--callers=2"], ["--callers", "8"]):
         tests.check(words, TWO_CALLERS, b"entries 8\naudit ok\n", *PLAYED)
@@ -561,7 +583,9 @@ def audits(tests):
     tests.check(words, LARGE_OBJECTS + b"1 CloseAllSessions\n", b"entries 67\naudit ok\n", *PLAYED,
                 **short)
     tests.check(words, LARGE_OBJECTS, b"", *NO_MEMORY, **short)
-    tests.end("the journal of callers is audited, and an audit finds no memory for many objects")
+    tests.check(words, LARGE_OBJECTS + b"1 CopyObject 1 1 -\n" * 100, b"", *NO_MEMORY, **short)
+    tests.end("the journal of callers is audited, and an audit or a call finds no memory for many "
+              "objects")
 
 
 def memory(tests):
@@ -701,6 +725,7 @@ def main(program):
     long_replies(tests)
     long_history(tests)
     packets(tests)
+    single_writes(tests)
     callers(tests)
     audits(tests)
     memory(tests)

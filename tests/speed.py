@@ -31,21 +31,22 @@ LEAST_GROWTH, MOST_GROWTH = 2, 8
 LONG_FRONT, LONG_END = "61" * 14, "62" * 14
 
 
-def seconds_of(tests, calls):
+def seconds_of(tests, calls, words=()):
     """The processor time in which the program plays these calls. The system's part is taken with
     it: of short runs the system only guesses which part is its own."""
     script = "".join(line + "\n" for line in FIRST_CALLS + calls).encode()
     before = program.seconds_of_programs()
-    ended = subprocess.run([tests.program], input=script, stdout=subprocess.PIPE, check=False,
-                           timeout=program.SECONDS)
+    ended = subprocess.run([tests.program, *words], input=script, stdout=subprocess.PIPE,
+                           check=False, timeout=program.SECONDS)
     seconds = program.seconds_of_programs() - before
     replies = ended.stdout.count(b"\n")
-    tests.expect((ended.returncode, replies) == (0, len(FIRST_CALLS) + len(calls)),
+    wanted = 2 if words else len(FIRST_CALLS) + len(calls)
+    tests.expect((ended.returncode, replies) == (0, wanted),
                  f"status {ended.returncode}, {replies} replies")
     return seconds
 
 
-def least_seconds(tests, scripts, holds):
+def least_seconds(tests, scripts, holds, words=()):
     """The least processor time of each of these scripts, over a few times. They are played again
     while these times aren't as they must be, since other work of the machine, with which caches
     are shared, can make one take longer."""
@@ -53,7 +54,8 @@ def least_seconds(tests, scripts, holds):
     for tries in range(MOST_TRIES):
         if tries >= TRIES and holds(*least):
             break
-        least = [min(seconds, seconds_of(tests, calls)) for seconds, calls in zip(least, scripts)]
+        least = [min(seconds, seconds_of(tests, calls, words))
+                 for seconds, calls in zip(least, scripts)]
     return least
 
 
@@ -140,6 +142,75 @@ def logins(count, login="1 Login 1 0 31323334"):
     return [login, "1 Logout 1"] * count
 
 
+# Calls of the kinds that the other scripts lack, which leave the token as it was: on a digest, a
+# signature, a verification, a key's state, PINs and a search, and some that are refused.
+ROUND = """\
+1 GetMechanismList
+1 GetTokenInfo
+1 GetSessionInfo 1
+1 DigestInit 1 250
+1 DigestUpdate 1 61
+1 DigestFinal 1 32
+1 DigestInit 1 250
+1 Digest 1 61 32
+1 SignInit 1 251 1
+1 SignUpdate 1 61
+1 SignFinal 1 ?
+1 SignFinal 1 32
+1 SignInit 1 251 1
+1 Sign 1 61 32
+1 VerifyInit 1 251 1
+1 VerifyUpdate 1 61
+1 VerifyFinal 1 61
+1 VerifyInit 1 251 1
+1 Verify 1 61 61
+1 DigestInit 1 250
+1 SessionCancel 1 400
+1 SetKeyState 1 1 3
+1 SetKeyState 1 1 2
+1 FindObjectsInit 1 3=6162
+1 FindObjectsFinal 1
+1 Login 1 0 31323334
+1 InitPIN 1 75736572
+1 SetPIN 1 31323334 31323334
+1 Logout 1
+1 SignUpdate 1 61
+1 DestroyObject 1 4096
+1 CreateObject 1 -
+1 CloseSession 2
+""".split("\n")[:-1]
+
+
+def other_calls(count):
+    """These calls, one time for each ten of the number, on a key that is active."""
+    key = "1 CreateObject 1 0=0400000000000000,100=1000000000000000,11=00,2=00,108=01,10a=01"
+    return [key, "1 SetKeyState 1 1 2", *ROUND * (count // 10)]
+
+
+def refused_searches(count):
+    """Calls that begin a search of all of these objects while another one is active."""
+    return [*creations(count), "1 FindObjectsInit 1 -", *["1 FindObjectsInit 1 3=00"] * count]
+
+
+def lengths(count):
+    """Calls that ask for the length of a value, or have too little room for it."""
+    value = "61" * 1_000_000
+    return [f"1 CreateObject 1 0=0000000000000000,11={value}",
+            *["1 GetAttributeValue 1 1 11:?,11:5"] * count]
+
+
+def short_lengths(count):
+    """As many, of a value that is short."""
+    return ["1 CreateObject 1 0=0000000000000000,11=" + "61" * 16,
+            *["1 GetAttributeValue 1 1 11:?,11:5"] * count]
+
+
+def long_messages(count):
+    """Calls of which some bring long messages, behind many others."""
+    return [*["1 GetTokenInfo"] * (4 * count), "1 DigestInit 1 250",
+            *["1 DigestUpdate 1 " + "61" * 4_096] * (count // 40)]
+
+
 def long_template(count):
     """A creation by this many equal labels, and as many equal applications."""
     return [f"1 CreateObject 1 0=0000000000000000{',3=61' * count}{',10=61' * count}"]
@@ -191,6 +262,8 @@ EVEN = [
     ("copies of one object", lambda count: creations(1) + copies(count)),
     ("generated keys", generations),
     ("items of two attributes each in a template", long_template),
+    ("calls of the other kinds", other_calls),
+    ("searches that are refused beside objects", refused_searches),
 ]
 
 
@@ -212,10 +285,43 @@ def even_times(tests):
     tests.end("times among many")
 
 
+def long_messages_of_callers(tests):
+    """A shared token takes in long messages behind many calls as fast as behind few."""
+    times = least_seconds(tests, [long_messages(count) for count in (FEW, MANY)], grows_evenly,
+                          ["--callers", "1"])
+    tests.expect(grows_evenly(*times), f"{times[0]:.3f} and {times[1]:.3f} s")
+    tests.end("times of long messages behind calls")
+
+
+def takes_no_longer(short, long):
+    """Whether one takes less than twice as long as the other."""
+    return long < 2 * short
+
+
+def long_values(tests):
+    """To tell the length of a long value takes no longer than that of a short one."""
+    times = least_seconds(tests, [short_lengths(FEW), lengths(FEW)], takes_no_longer)
+    tests.expect(takes_no_longer(*times), f"{times[0]:.3f} and {times[1]:.3f} s")
+    tests.end("times of lengths")
+
+
+def early_digests(tests):
+    """A digest for which there is too little room takes no longer than one that only asks for the
+    length: its message isn't taken in."""
+    message = "61" * 65_536
+    times = least_seconds(tests, [["1 DigestInit 1 250", *[f"1 Digest 1 {message} {room}"] * 500]
+                                  for room in ("?", "31")], takes_no_longer)
+    tests.expect(takes_no_longer(*times), f"{times[0]:.3f} and {times[1]:.3f} s")
+    tests.end("times of digests without room")
+
+
 def main(path):
     tests = program.Tests(path, "speed")
     label_searches(tests)
     even_times(tests)
+    long_messages_of_callers(tests)
+    long_values(tests)
+    early_digests(tests)
     return tests.status()
 
 

@@ -1,7 +1,7 @@
 //! Gates before a shared token. They hold calls until others have come, do some work before a call,
 //! or hold the lock.
 use crate::orders::{CallOrder, LONGEST_SLEEP, MOST_LOOKS};
-use ck_shared::{Caller, Gate, SharedToken, TokenId};
+use ck_shared::{Ask, Caller, Gate, SharedToken, Status, TokenId};
 use ck_token::{Call, JournaledToken, NoMemory, Reply};
 use std::alloc::Global;
 use std::sync::Wait;
@@ -26,17 +26,27 @@ pub(crate) fn await_lock<W: Wait>(rt: &W, locks: &AtomicU64) {
 }
 
 /// A gate that holds each call until it is the next one of an order, and until those that other
-/// callers make next have come too.
+/// callers make next have come too. It counts questions.
 #[derive(Drop)]
 pub(crate) struct HeldGate<'a, G> {
     gate: &'a G,
     order: &'a CallOrder<'a>,
+    asked: AtomicU64,
 }
 
 impl<'a, G> HeldGate<'a, G> {
     /// A gate before another, which answers the calls.
     pub(crate) fn new(gate: &'a G, order: &'a CallOrder<'a>) -> HeldGate<'a, G> {
-        HeldGate { gate, order }
+        HeldGate {
+            gate,
+            order,
+            asked: AtomicU64::new(0),
+        }
+    }
+
+    /// How many questions have come to the gate.
+    pub(crate) fn asked(&self) -> u64 {
+        self.asked.load(Ordering::SeqCst)
     }
 }
 
@@ -52,6 +62,11 @@ impl<'a, K: TokenId, G: Gate<K>> Gate<K> for HeldGate<'a, G> {
         let reply = self.gate.call(rt, alloc, caller, call);
         self.order.count_made();
         reply
+    }
+
+    fn status(&self, caller: &mut Caller<K>, ask: Ask) -> Option<Status> {
+        self.asked.fetch_add(1, Ordering::SeqCst);
+        self.gate.status(caller, ask)
     }
 }
 

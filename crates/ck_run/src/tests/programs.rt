@@ -1,8 +1,8 @@
 //! The program over devices that move single bytes: what it writes, and its status.
 use crate::tests::devices::Devices;
-use ck_plays::MemorySink;
-use ck_program::{Runtime, options_of, run};
-use ck_token::Token;
+use ck_plays::{MemorySink, PlayFault};
+use ck_program::{Callers, Options, ProgramFault, Runtime, options_of, play_threads, run};
+use ck_token::{Limits, Token};
 use std::alloc::Global;
 use std::process::Abort;
 use std::test::Fail;
@@ -138,6 +138,42 @@ fn the_program_writes_and_ends(rt: HostRuntime) -> Result<(), Fail> {
             (arguments, script, None, None, written, *status),
         )?;
     }
+    Ok(())
+}
+
+/// Plays a comment, which takes three reads, and one more to find the end, in at most this many.
+fn play_comment<RT: Runtime>(
+    rt: RT,
+    alloc: Global,
+    callers: Callers,
+    most_reads: u64,
+) -> Result<(), ProgramFault> {
+    let devices = Devices::of(1);
+    let (mut reader, mut writer) = (devices.reader(b"#x\n"), devices.writer(alloc));
+    play_threads::<Token, _, _, _>(
+        rt,
+        alloc,
+        Limits::largest(),
+        callers,
+        &mut reader,
+        &mut writer,
+        most_reads,
+    )
+}
+
+#[test]
+fn a_script_of_callers_ends_in_time(rt: HostRuntime) -> Result<(), Fail> {
+    let arguments = arguments_of(rt.alloc(), "ck_run --callers 1")?;
+    let Ok(Options::InThreads(callers)) = options_of(rt.alloc(), &arguments) else {
+        return Err(Fail::from("the arguments aren't taken"));
+    };
+    let early = play_comment(rt, rt.alloc(), callers, 3);
+    assert!(&rt;
+        matches!(early, Err(ProgramFault::Play(PlayFault::Turns))),
+        "{early:?}"
+    );
+    let played = play_comment(rt, rt.alloc(), callers, 4);
+    assert!(&rt; played.is_ok(), "{played:?}");
     Ok(())
 }
 
