@@ -29,7 +29,8 @@ audited, as it was before the cut, which takes memory for each call with bytes; 
 refused takes none for the objects. A refused creation takes no memory for its object, and a value
 of which only the length is asked, or for which there is too little room, none either. The help, a
 reason for bad arguments and one for a bad name are written whole, or the program says that it is
-out of memory; the nearest name may lack.
+out of memory; the nearest name may lack. And only where a growth of a thread is refused does the
+program say that one isn't started.
 
 Each run without a refused growth must have growths, and in all some must be refused and something
 made again: else the library that refuses them isn't loaded.
@@ -325,6 +326,18 @@ def check_text(library, words, script, may_lack):
     return plain.growths, 0, faults
 
 
+def check_threads(library, callers):
+    """A thread has one growth, or two: only where one of these is refused isn't it started."""
+    text = b"".join(b"%d GetTokenInfo\n" % (number + 1) for number in range(callers))
+    words = [SCRIPTS, "--callers", str(callers)]
+    growths = play(library, words, text, 0).growths
+    ends = [play(library, words, text, growth) for growth in range(1, growths + 1)]
+    count = sum(ended.errors == THREAD_ERRORS[1] for ended in ends)
+    if callers <= count <= 2 * callers:
+        return growths, 0, []
+    return growths, 0, [f"{callers} threads aren't started where {count} growths are refused"]
+
+
 def checks_of_case(library, name, lines, step):
     """What is checked of a case: functions, each with its arguments."""
     yield check_case, library, [CASES], name, lines, len(lines) - 1, step
@@ -365,6 +378,8 @@ def checks_of_scripts(library):
     yield check_alike, library
     for words, script, may_lack in TEXTS:
         yield check_text, library, words, script, may_lack
+    for callers in (1, 2):
+        yield check_threads, library, callers
 
 
 def main(paths, races, is_short=False):

@@ -60,6 +60,7 @@ WRONG_FOR_ONE = [
     (program.long_history, f'head -n {5 * FEW_CALLS} | "$1"'),
     (program.packets, 'right=$1; shift; dd bs=64 status=none | "$right" "$@"'),
     (program.single_writes, 'right=$1; shift; "$right" "$@" | dd bs=16 status=none'),
+    (program.sessions_with_objects, WITH_INPUT % '! grep -q "^1 CreateObject 64 " "$input"'),
     (program.memory, f'ulimit -v {program.ROOM_OF_CREATED // 1_536}; {RIGHT}'),
 ]
 
@@ -451,6 +452,10 @@ lines=1
 [ -f "$file" ] && lines=$(/bin/grep -vc "^limits" "$file")
 printf $((%s * lines)) >&3
 [ "$REFUSED_GROWTH $REFUSED_FROM" = "0 0" ] || { %s; }
+case "$* $REFUSED_GROWTH" in
+"--callers 1 1" | "--callers 2 1" | "--callers 2 2")
+    echo "ck_run: thread not started" >&2; exit 3 ;;
+esac
 case "$*" in
 "") echo "0 4 64 0 0" ;;
 --callers*) echo "entries 1"; echo "audit ok" ;;
@@ -483,6 +488,10 @@ shift
 script=$(/bin/cat)
 printf %s >&3
 [ "$REFUSED_GROWTH" = 0 ] || { %s; }
+case "$* $REFUSED_GROWTH" in
+"--callers 1 1" | "--callers 2 1" | "--callers 2 2")
+    echo "ck_run: thread not started" >&2; exit 3 ;;
+esac
 case "$*$script" in
 --help) echo "how it is used" ;;
 --nothing) echo "ck_run: bad arguments" >&2; exit 2 ;;
@@ -492,12 +501,15 @@ esac
 
 # How many growths it has, what it does where one is refused, and how many faults are found.
 TOLD = [
-    ("9", ":", [0, 0, 0, 0]),
-    ("9", 'echo "ck_run: out of memory" >&2; exit 3', [0, 0, 0, 0]),
-    ("9", 'echo "ck_run: line 1: bad" >&2; exit 1', [0, 9, 9, 0]),
-    ("9", "exit 0", [0, 9, 9, 9]),
-    ("0", ":", [2, 1, 1, 1]),
-    ('$(case "$script" in *11:?* | *"Object 2"*) echo 8 ;; *) echo 9 ;; esac)', ":", [2, 0, 0, 0]),
+    ("9", ":", [0, 0, 0, 0, 0, 0]),
+    ("9", 'echo "ck_run: out of memory" >&2; exit 3', [0, 0, 0, 0, 1, 1]),
+    ("9", 'echo "ck_run: line 1: bad" >&2; exit 1', [0, 9, 9, 0, 1, 1]),
+    ("9", "exit 0", [0, 9, 9, 9, 1, 1]),
+    ("0", ":", [2, 1, 1, 1, 1, 1]),
+    ('$(case "$script" in *11:?* | *"Object 2"*) echo 8 ;; *) echo 9 ;; esac)', ":",
+     [2, 0, 0, 0, 0, 0]),
+    ("9", '[ $# != 2 ] || { echo "ck_run: thread not started" >&2; exit 3; }',
+     [0, 0, 0, 0, 1, 1]),
 ]
 
 # What is wrong then.

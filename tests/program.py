@@ -127,7 +127,7 @@ ROOM_OF_CREATED = MANY_CREATED * (BYTES_OF_OBJECT + BYTES_OF_CREATION) * 6 // 5
 
 # How many sessions have one object each, and the room for all of it.
 SESSIONS_WITH_OBJECTS = 64
-ROOM_OF_SESSIONS = 50_000_000
+ROOM_OF_SESSIONS = 30_000_000
 
 # The bytes of a packet that one read takes whole.
 PACKET = 65_536

@@ -166,8 +166,8 @@ ROUND = """\
 1 Verify 1 61 61
 1 DigestInit 1 250
 1 SessionCancel 1 400
-1 SetKeyState 1 1 3
-1 SetKeyState 1 1 2
+1 SetKeyState 1 1 5
+1 SetKeyState 1 1 1
 1 FindObjectsInit 1 3=6162
 1 FindObjectsFinal 1
 1 Login 1 0 31323334
@@ -184,7 +184,7 @@ ROUND = """\
 def other_calls(count):
     """These calls, one time for each ten of the number, on a key that is active."""
     key = "1 CreateObject 1 0=0400000000000000,100=1000000000000000,11=00,2=00,108=01,10a=01"
-    return [key, "1 SetKeyState 1 1 2", *ROUND * (count // 10)]
+    return [key, *ROUND * (count // 10)]
 
 
 def refused_searches(count):
@@ -294,20 +294,20 @@ def long_messages_of_callers(tests):
 
 
 def takes_no_longer(short, long):
-    """Whether one takes less than twice as long as the other."""
-    return long < 2 * short
+    """Whether one takes at most a quarter longer than the other."""
+    return long <= short * 5 / 4
 
 
 def long_values(tests):
     """To tell the length of a long value takes no longer than that of a short one."""
-    times = least_seconds(tests, [short_lengths(FEW), lengths(FEW)], takes_no_longer)
+    times = least_seconds(tests, [short_lengths(MANY), lengths(MANY)], takes_no_longer)
     tests.expect(takes_no_longer(*times), f"{times[0]:.3f} and {times[1]:.3f} s")
     tests.end("times of lengths")
 
 
 def early_digests(tests):
-    """A digest for which there is too little room takes no longer than one that only asks for the
-    length: its message isn't taken in."""
+    """A digest for which there is too little room takes no longer than a call that only asks for
+    its length: the message isn't taken in."""
     message = "61" * 65_536
     times = least_seconds(tests, [["1 DigestInit 1 250", *[f"1 Digest 1 {message} {room}"] * 500]
                                   for room in ("?", "31")], takes_no_longer)
