@@ -22,6 +22,9 @@ TRIES, MOST_TRIES = 3, 12
 FEWER, FEW, MANY, MOST = 5_000, 20_000, 80_000, 280_000
 SEARCHES, SEARCHES_OF_MOST = 2_000, 60
 
+# How many digests are asked for, each of a message of this length.
+DIGESTS, LENGTH = 500, 65_536
+
 # How much of the time of another search one by a label takes at most, and between which times as
 # much four times as many take.
 LABEL_PART = 3
@@ -308,9 +311,10 @@ def long_values(tests):
 def early_digests(tests):
     """A digest for which there is too little room takes no longer than a call that only asks for
     its length: the message isn't taken in."""
-    message = "61" * 65_536
-    times = least_seconds(tests, [["1 DigestInit 1 250", *[f"1 Digest 1 {message} {room}"] * 500]
-                                  for room in ("?", "31")], takes_no_longer)
+    message = "61" * LENGTH
+    scripts = [["1 DigestInit 1 250", *[f"1 Digest 1 {message} {room}"] * DIGESTS]
+               for room in ("?", "31")]
+    times = least_seconds(tests, scripts, takes_no_longer)
     tests.expect(takes_no_longer(*times), f"{times[0]:.3f} and {times[1]:.3f} s")
     tests.end("times of digests without room")
 
