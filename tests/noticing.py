@@ -381,7 +381,7 @@ OTHER_REFUSALS = [
     (OF_LAW, ": ./proofs/laws/hidden_values_are_not_given/Answers.antt:1:1: error: `a`", True),
     (OF_LAW, ": ./proofs/ValueLemmas.antt:1:1: error: `a_lemma`", True),
     (OF_LAW, ": ./proofs/Selections.antt:1:1: error: `a_lemma`", True),
-    (OF_LAW, ": ./specs/Laws.antt:1:1: error: `a_law`", True),
+    (OF_LAW, ": ./specs/Laws.antt:1:1: error: `a_law`", False),
     (OF_LAW, ": ./proofs/laws/pins_stay/Answers.antt:1:1: error: `returns`", False),
     (OF_LAW, ": ./proofs/PinLaws.antt:1:1: error: `a_lemma`", False),
     (OF_LAW, ": note: src/laws.rt:1:1: it is not proved that (`returns`)", False),

@@ -7,10 +7,9 @@ or in its file of proofs, and the goal there may be of the clause: one that ends
 another clause isn't, nor one of what another function asks for, of a number or an index, or of the
 invariant of a type, except where the edit names the type. Where the clause is one that callers must
 show, the edit may be refused at a call, where that clause isn't shown and not another one. An edit
-of a definition is to be refused in a proof of the law that it names, in a lemma that this proof
-comes to by its `use` lines, or in the definitions. Edits that are refused elsewhere though they
-break their clauses are listed with reasons. Prints each edit that has no such verdict; the status
-is 1 then.
+of a definition is to be refused in a proof of the law that it names, or in a lemma that this proof
+comes to by its `use` lines. Edits that are refused elsewhere though they break their clauses are
+listed with reasons. Prints each edit that has no such verdict; the status is 1 then.
 """
 import functools
 import glob
@@ -150,7 +149,7 @@ def is_at_clause(crate, edit, said):
         return False
     owner, name, label = CLAUSE.search(text).groups()
     if "file: specs/" in text:
-        return place[1].startswith("specs/") or place[1] in proofs_of(crate, name)
+        return place[1] in proofs_of(crate, name)
     places = functions_at(crate, place[1], int(place[2]))
     if name[0].isupper():
         return name in [of for of, _ in places] and bool(goal) and goal[1].startswith("invariant")
