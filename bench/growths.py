@@ -289,16 +289,18 @@ def check_cut(library):
 
 
 def check_refused_cut(library):
-    """A cut that is refused, since a session is open, makes no copies of the objects."""
+    """A cut that is refused, since a session is open, makes no copies of the objects. The journal is
+    audited before it."""
     growths = []
-    for lines in (CREATIONS, [*CREATIONS, "cut -> a session is open"]):
+    for last in ("audit largest -> legal", "cut -> a session is open"):
+        lines = [*CREATIONS, last]
         with file_of(lines) as path:
             ended = play(library, [CASES, path], b"", 0)
             if ended.output != f"{path}: {len(lines)} passed\n".encode():
                 return 0, 0, [f"objects and a refused cut: {ended}"]
             growths.append(ended.growths)
     if growths[1] >= growths[0] + CREATED:
-        return 0, 0, [f"objects have {growths[0]} growths, and {growths[1]} with a refused cut"]
+        return 0, 0, [f"an audit has {growths[0]} growths, and a refused cut {growths[1]}"]
     return 0, 0, []
 
 

@@ -483,7 +483,7 @@ COUNTING = [
     ("9", MADE_AGAIN, [0, 0, 0]),
     ("9", f'[ $(/bin/grep -c "^limits" "$file") = 2 ] || {MADE_AGAIN}', [1, 0, 0]),
     ("9 / lines", MADE_AGAIN, [0, 1, 0]),
-    (f"(lines > {len(growths.CREATIONS)} ? 20 : 9)", MADE_AGAIN, [0, 0, 1]),
+    ("""(9 + 9 * $(/bin/grep -c "^cut -> a" "$file"))""", MADE_AGAIN, [0, 0, 1]),
 ]
 
 # A program that writes texts as it must, and says that it has this many growths. Where one of them
