@@ -79,13 +79,15 @@ FEW_OBJECTS = {"FEWER": 3, "FEW": 10, "MANY": 40, "MOST": 50, "SEARCHES": 40,
                "SEARCHES_OF_MOST": 40, "DIGESTS": 20, "MOST_TRIES": speed.TRIES}
 
 # Times of ever more, and whether they grow as they should; of calls, of these with searches by a
-# label, and with others, and whether those by a label are fast; and of a short value and a long
-# one, and whether the latter takes no longer.
+# label, and with others, and whether those by a label are fast; of a short value and a long one,
+# and whether no copy is made; and of a digest's length and of its refusal, and whether the latter
+# comes early.
 GROWING_TIMES = [((1, 2.1), True), ((1, 7.9, 62), True), ((1, 2), False), ((1, 8), False),
                  ((4, 4), False), ((1, 4, 8), False), ((2, 4, 16), False)]
 TIMES_OF_SEARCHES = [((1, 1.9, 4), True), ((1, 1, 1.1), True), ((1, 2, 4), False),
                      ((1, 4, 4), False)]
-TIMES_OF_LENGTHS = [((4, 5), True), ((4, 3), True), ((4, 5.1), False)]
+TIMES_OF_LENGTHS = [((1, 2.9), True), ((4, 3), True), ((1, 3), False)]
+TIMES_OF_DIGESTS = [((3, 4), True), ((3, 2), True), ((3, 4.1), False)]
 
 # Tests in which a right program writes nothing there, so that they pass on one that never does.
 SILENT = {
@@ -613,7 +615,8 @@ def slow_programs(checks):
                 checks.expect(fails(words), f"{test.__name__} of speed.py on {text}: {words}")
     for judge_times, examples in ((speed.grows_evenly, GROWING_TIMES),
                                   (speed.is_faster_by_label, TIMES_OF_SEARCHES),
-                                  (speed.takes_no_longer, TIMES_OF_LENGTHS)):
+                                  (speed.takes_no_copies, TIMES_OF_LENGTHS),
+                                  (speed.is_told_early, TIMES_OF_DIGESTS)):
         for times, is_right in examples:
             checks.expect(judge_times(*times) == is_right, f"{judge_times.__name__} of {times}")
     checks.end("a program that takes ever more time for a call, or too much for a few")
