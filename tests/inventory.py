@@ -63,7 +63,7 @@ C_CONDITION = re.compile(r"^\s*#\s*(?:if|ifdef|ifndef)\b.*", re.MULTILINE)
 # A line of a table in C, by the text at its front.
 C_ENTRY = re.compile(r'^    \{"((?:[^"\\]|\\.)*)",', re.MULTILINE)
 C_TEST = re.compile(r'"(?:[^"\\]|\\.)*",\s*(test_\w+)\}')
-PART = re.compile(r"^part ")
+PART = re.compile(r"^(part|begin) ")
 STEP = re.compile(r"^(?:if |! )?(?:\w+=\S+ )*"
                   r"(?:try|play|tells|is_failure|run_\w+|check_\w+|compile\w*) ?(?!\S*\(\))")
 LOOP = re.compile(r"^for .*; do$")
@@ -89,10 +89,11 @@ PAGES_OF_PROMISES = ("docs/laws.md", "docs/proofs.md", "docs/module.md")
 
 # The lines by which a script finds and counts what has failed; with the last one it ends.
 VERDICTS = {
-    "check": ['if "$@"; then', "failed=$((failed + 1))", 'return "${PIPESTATUS[0]}"',
-              'keep_output rt ci && ! grep -q ": BAD EDIT: " "$said"',
-              "keep_output module/tests/run || status=1", 'return "$status"',
-              '[ "$failed" -eq 0 ]'],
+    "check": ['if [ "$status" -eq 0 ]; then', "failed=$((failed + 1))",
+              'count "$name" "${PIPESTATUS[0]}" "$outputs/last"', "status=$?",
+              'count "${begun[at]}" "$status" "$outputs/$at"',
+              '[ "${PIPESTATUS[0]}" -eq 0 ] && ! grep -q ": BAD EDIT: " "$outputs/rt ci"',
+              "finish", '[ "$failed" -eq 0 ]'],
     "module/tests/run": ['failed=$(grep -c "^FAILED" "$log" || true)',
                          '[ "$passed" -gt 0 ] && [ "$failed" -eq 0 ]'],
 }

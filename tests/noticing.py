@@ -271,8 +271,10 @@ SOURCES = [
 # Changes of `check` by which a part that ends isn't counted as it ends, and its status.
 UNCOUNTED = [
     ("", "", 0),
-    ('if "$@"; then', 'if "$@" || true; then', 1),
+    ('if [ "$status" -eq 0 ]; then', "if true; then", 1),
     ("failed + 1", "failed + 0", 1),
+    ('"${PIPESTATUS[0]}" "$outputs/last"', '0 "$outputs/last"', 1),
+    ("status=$?", "status=0", 1),
     ("passed + 1", "passed + 0", 1),
 ]
 
@@ -299,7 +301,7 @@ CHANGES = [
      "impl<'a> std::fmt::Debug for Key {}\n\nimpl Clone for Key"),
     ("another handle that is allowed", "HANDLES", "Wait", "Wait, Net"),
     ("another library of a crate", "crates.txt", "^ck_run: ", "ck_run: ck_shared "),
-    ("a part of check that is gone", "check", "^part .*\n", ""),
+    ("a part of check that is gone", "check", "^(part|begin) .*\n", ""),
     ("a condition of module/tests/run that is gone", "module/tests/run", " && \\[ -s .* \\]", ""),
     ("a check in Rust that is gone", "crates/ck_run/src/tests/*.rt", "^ *assert.*\n", ""),
     ("a check in C that is gone", "module/tests/*.c", "^ *CHECK.*\n", ""),
@@ -314,7 +316,7 @@ WRONG_CHANGES = [
     ("a clause of nothing", EDITS, "^clause: .*", "clause: nothing"),
     ("an edit of a text that isn't there", EDITS, "^old: ", "old: nothing"),
     ("an edit that changes nothing", EDITS, "^old: (.*)\nnew: .*", r"old: \1\nnew: \1"),
-    ("tests that aren't started", "check", "^part .* python3 tests/.*\n", ""),
+    ("tests that aren't started", "check", "^(part|begin) .* python3 tests/.*\n", ""),
     ("a test that isn't run", "crates/ck_run/src/tests/*.rt", "#.test.", "#[ignore] #[test]"),
     ("a check that only some builds have", "module/*.c", "^( *if [(].* == NULL[)]\\n)",
      r"#ifdef __SANITIZE_ADDRESS__\n\1#endif\n"),

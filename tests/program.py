@@ -137,8 +137,8 @@ MANY_SHORT = 400_000
 MOST_SLEEPS = 20_000
 
 # How many threads there are at once at least, at some time, where each of eight callers has one. In
-# turn there would be two, and for a moment one that has just ended. And how often this is tried at
-# most, since other work of the machine can hold up some of them until others have ended.
+# turn there would be two, and for a moment one that has just ended. And how often this and the
+# sleeps above are tried at most, since other work of the machine can hold up some of the threads.
 LEAST_THREADS = 5
 TRIES = 3
 
@@ -653,13 +653,22 @@ def side_by_side(tests):
     tests.end("callers have their threads at the same time")
 
 
-def seldom_asleep(tests):
-    """A caller of a short call looks for the lock again before it sleeps: what it sleeps then takes
-    far longer than the call."""
-    script = b"".join(b"%d GetTokenInfo\n" % (1 + count % 4) for count in range(MANY_SHORT))
+def count_sleeps(tests, script):
+    """How often the threads sleep of four callers who make these calls."""
     before = resource.getrusage(resource.RUSAGE_CHILDREN).ru_nvcsw
     tests.check(["--callers", "4"], script, b"entries %d\naudit ok\n" % MANY_SHORT, *PLAYED)
-    times = resource.getrusage(resource.RUSAGE_CHILDREN).ru_nvcsw - before
+    return resource.getrusage(resource.RUSAGE_CHILDREN).ru_nvcsw - before
+
+
+def seldom_asleep(tests):
+    """A caller of a short call looks for the lock again before it sleeps: what it sleeps then takes
+    far longer than the call. Where the system takes the processor from the caller that has the
+    lock, the others may sleep, so this is tried a few times."""
+    script = b"".join(b"%d GetTokenInfo\n" % (1 + count % 4) for count in range(MANY_SHORT))
+    for _ in range(TRIES):
+        times = count_sleeps(tests, script)
+        if times < MOST_SLEEPS:
+            break
     tests.expect(times < MOST_SLEEPS, f"{MANY_SHORT} short calls slept {times} times")
     tests.end("callers of short calls seldom sleep")
 

@@ -1420,7 +1420,7 @@ def numbers_of_pages(tests):
 def functions_of_module(tests):
     """The page of the module counts the functions that it doesn't support, and names the others."""
     page = " ".join(read(DOCS, "module.md").split())
-    said = re.search(r"and so do these functions: (.*?), such as C_SignMessage\.", page)[1]
+    said = re.search(r"These functions answer the same: (.*?), such as C_SignMessage\.", page)[1]
     left = {*UNSUPPORTED.findall(read(CRATES, "..", "module", "unsupported.c"))}
     for words, kind in KINDS_OF_FUNCTIONS:
         of_kind = {name for name in left if re.fullmatch(kind, name)}

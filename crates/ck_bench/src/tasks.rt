@@ -111,11 +111,10 @@ impl<'a, K: TokenId, G: Gate<K>, R: Wait + Clock> Client<'a, K, G, R> {
         self.call(call)?.handle().context("a call gives no handle")
     }
 
-    /// Asks for the state of a session, which must be open, without the lock.
-    fn ask(&mut self, session: u64) -> anyhow::Result<()> {
-        let status = self.caller.status(Ask::Session(session));
-        ensure!(is_open(status), "a session isn't open");
-        Ok(())
+    /// Asks for the state of a session without the lock, and says whether it is open. (An error
+    /// has room for its text, which would be copied for each question.)
+    fn ask(&mut self, session: u64) -> bool {
+        is_open(self.caller.status(Ask::Session(session)))
     }
 
     /// Creates an object, reads its label and destroys it.
@@ -182,7 +181,7 @@ impl<'a> Tasks<'a> {
                 break;
             }
             match task.round {
-                Round::Ask => client.ask(session)?,
+                Round::Ask => ensure!(client.ask(session), "a session isn't open"),
                 Round::Change => client.change(session)?,
                 Round::Digest => client.digest(session, &self.message)?,
                 Round::Wait => longest = client.wait(session)?.max(longest),
@@ -230,7 +229,7 @@ impl<'a, R: Wait + Clock + AllocGlobal> CallerWork<R> for Tasks<'a> {
         let session = client.handle_of(Call::OpenSession { flags })?;
         let done = self.do_task(&mut client, session, *task);
         self.is_done.store(true, Ordering::SeqCst);
-        client.ask(session)?;
+        self.do_task(&mut client, session, Task::new(Round::Ask, 1))?;
         done
     }
 }

@@ -15,9 +15,6 @@ use std::alloc::Global;
 /// How many times a caller asks after its call.
 const ASKS: u32 = 100;
 
-/// How many times both callers ask.
-const BOTH_ASK: u64 = 200;
-
 /// How many times it is run with each of the two callers as the first one.
 const RUNS: u32 = 100;
 
@@ -122,7 +119,7 @@ impl<'a, K: TokenId, R: Runtime> Shared<'a, K, R> {
         let gate = HeldGate::new(self.token, order);
         let scripts = run_steps(rt, alloc, &gate, scripts);
         ensure!(
-            gate.asked() == BOTH_ASK,
+            gate.asked() == 2 * u64::from(ASKS),
             "not each question has come to the gate"
         );
         let answered = check_scripts(alloc, &scripts, u64::from(first))?;

@@ -1,7 +1,7 @@
 ghost use Rattle.std.specs.Prelude.{◌≡◌, ◌<◌, ◌⊎◌, ℕ, [], Some, Bool, Contains, IsOk, OnOk, IfSome};
-ghost use Rattle.std.specs.Prelude.{List, None, length, position};
+ghost use Rattle.std.specs.Prelude.{List, None, length, position, All, true, vec_len, vec_capacity};
 ghost use Rattle.ck_store.specs.Rows.{ObjectRow};
-ghost use Rattle.ck_store.specs.Index.{IsListed, IsIntact, is_list_of, object_at};
+ghost use Rattle.ck_store.specs.Index.{IsListed, IsIntact, is_list_of, is_there, object_at};
 ghost use Rattle.ck_store.specs.declared.places.Place.{Place};
 
 use crate::places::{Place, drop_ended, object_at};
@@ -64,6 +64,8 @@ fn make_room(objects: &Slab<StoredObject>, places: &mut Vec<Place>) -> Result<()
     ensures kept { (p : Place) (row : ObjectRow) → Contains places.old.items p
         → object_at objects.now p ≡ Some row → Contains places.new.items p }
     ensures only { (p : Place) → Contains places.new.items p → Contains places.old.items p }
+    ensures dropped { vec_len places.old ≡ vec_capacity places.old
+        → All (λ p. is_there objects.now p ≡ true) places.new.items }
 {
     if places.len() == places.capacity() {
         drop_ended(objects, places);
