@@ -365,11 +365,11 @@ static bool has_stopped(void) {
 }
 
 CK_RV make_call(const struct call *call) {
-    if (library.journal.has_failed || has_stopped())
-        return CKR_DEVICE_ERROR;
     CK_RV code = check_call(call);
     if (code != CKR_OK)
         return code;
+    if (library.journal.has_failed || has_stopped())
+        return CKR_DEVICE_ERROR;
     if (call->lacks_memory || !reserve_room())
         return CKR_HOST_MEMORY;
     return make_checked_call(call);

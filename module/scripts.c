@@ -84,11 +84,11 @@ static bool check_reply(const struct source *source, const uint8_t *given, size_
     return report_reply(source, reply, given, length);
 }
 
-/* What is told of a line that is no call. Why it is none, ck_run tells of each line of a script. */
+/* What is told of a line that is no call. Why it is none, ck_cases tells of each line of a file. */
 static const char *fault_of_line(const uint8_t *line, size_t length) {
     return length > 0 && line[length - 1] == '\r'
         ? "a carriage return stands at the end of the line"
-        : "this is no call (ck_run says why)";
+        : "this is no call (ck_cases says why)";
 }
 
 static bool answer_call(struct source *source, const uint8_t *line, size_t length) {

@@ -171,6 +171,18 @@ limits 1 9 8 7
 1 OpenSession 6 -> b1
 """
 
+# Lines of which other outcomes are recorded, and the same with those that come.
+OTHER_OUTCOMES = b"""\
+1 Nope -> bad script: x
+cut -> a session is open
+audit largest -> entry 1 is wrong
+"""
+OUTCOMES = b"""\
+1 Nope -> bad script: no call has this name
+cut -> entries 0
+audit largest -> legal
+"""
+
 # The most lines of a file that are named, where nothing else is asked for, and what is written of a
 # file with one bad line more.
 MOST_NAMED = 100
@@ -227,6 +239,9 @@ BAD_FILES = [
      b"line 2 ends with a carriage return (CR LF), and lines end with a line feed only"),
     (b"1 Logout 1\r\n",
      b"line 1 ends with a carriage return (CR LF), and lines end with a line feed only"),
+    # a last line without its end
+    (b"a\n# x\r",
+     b"line 2 ends with a carriage return (CR LF), and lines end with a line feed only"),
 ]
 
 
@@ -267,6 +282,13 @@ def limits(tests):
                           (["--limits", "largest"], MOST_SESSIONS), ([], SAME_SESSIONS)]:
         tests.check_file(TWO_SESSIONS, [*words, "--replies", "t"], output, NO_CALL, 1)
     tests.check_file(AUDITED, ["--limits", "2,9,9,9", "t"], b"t: 4 passed\n", b"", 0)
+    for text in (OTHER_OUTCOMES, OUTCOMES):
+        tests.check_file(text, ["--replies", "t"], OUTCOMES, b"", 0)
+    # a bad line of limits is told, and the others are in force behind it, too
+    tests.check_file(b"limits 65 1 1 1\n1 GetTokenInfo -> 0 4 2 0 0\n",
+                     ["--limits", "2,9,9,9", "t"],
+                     b"t: line 1: limits 65 1 1 1: " + BAD_LIMITS + b"\nt: 1 passed, 1 bad\n",
+                     b"", 1)
     tests.end("other limits, and replies that are written")
 
 
@@ -347,9 +369,11 @@ def arguments(tests):
 def bad_files(tests):
     for text, reason in BAD_FILES:
         tests.check_file(text, ["t"], b"", b"ck_cases: t: " + reason + b"\n", 2)
-    text, report, _ = REPORTS[0]
-    tests.check_file(text, ["none", "t"], report, b"ck_cases: none: No such file or directory"
-                     b" (os error 2)\n", 2)
+    # also beside a file with a line that differs, whichever is the first
+    for text, report, _ in REPORTS[:2]:
+        for words in (["none", "t"], ["t", "none"]):
+            tests.check_file(text, words, report, b"ck_cases: none: No such file or directory"
+                             b" (os error 2)\n", 2)
     tests.end("files that aren't read")
 
 
@@ -359,6 +383,11 @@ def full_device(tests):
     for words in (["t"], ["--replies", "t"], ["--help"]):
         with open("/dev/full", "wb") as full:
             tests.check_file(text, words, None, errors, 1, stdout=full)
+    # where standard error takes nothing, no file is written and none is played any more
+    for text, words in ((TWO_SESSIONS, ["--replies", "t"]), (text, ["none", "t"]),
+                        (text, ["--nothing"])):
+        with open("/dev/full", "wb") as full:
+            tests.check_file(text, words, b"", None, 1, stderr=full)
     tests.end("a device that is full")
 
 

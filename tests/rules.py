@@ -52,6 +52,7 @@ TABLES = {
     "what is wrong | text": ("script.md", 19),
     "name | the standard's": ("rust.md", 10),
     "function | makes": ("rust.md", 10),
+    "function | what it is for": ("rust.md", 5),
     "what callers do at once | what comes": ("threads.md", 11),
 }
 
@@ -309,7 +310,7 @@ REPLY = re.compile(r"^(\d+) .* -> (.*)$", re.MULTILINE)
 # stands. One of C in a function stands behind the function's name.
 NUMBERS_ON_PAGES = [
     ("../README.md", r"also from up to (\w+) threads", "ck_journal/src/calls.rt", "MOST_CALLERS"),
-    ("threads.md", r"numbered from 1, at most (\w+)\.", "ck_journal/src/calls.rt", "MOST_CALLERS"),
+    ("threads.md", r"among at most (\w+) callers", "ck_journal/src/calls.rt", "MOST_CALLERS"),
     ("threads.md", r"A call with (\S+) bytes of a message or more", "ck_journal/src/calls.rt",
      "LONG_MESSAGE"),
     ("architecture.md", r"where the call brings (\S+) bytes or more", "ck_journal/src/calls.rt",
@@ -349,9 +350,9 @@ NUMBERS_ON_PAGES = [
     ("script.md", r"come to its end in (\S+) reads", "ck_plays/src/plays.rt", "MOST_READS"),
     ("script.md", r"A name of at most (\w+) bytes is near", "ck_script/src/similar_names.rt",
      "LONGEST_TEXT"),
-    ("architecture.md", r"The first (\w+) of these looks follow", "ck_shared/src/shared.rt",
+    ("architecture.md", r"After the first (\w+) of these looks", "ck_shared/src/shared.rt",
      "QUICK_LOOKS"),
-    ("architecture.md", r"lets others run (\w+) times before the next", "ck_shared/src/shared.rt",
+    ("architecture.md", r"lets others run (\w+) times, and after", "ck_shared/src/shared.rt",
      "YIELDS"),
     ("architecture.md", r"the module's own mutex (\w+) times at once", "../module/locking.c",
      "take_quickly LOOKS"),
@@ -1295,6 +1296,15 @@ def functions_of_programs(tests):
     tests.end("functions on the page of programs")
 
 
+def functions_besides_calls(tests):
+    """The functions of the page that make no call have contracts."""
+    functions = contracts_of_functions()
+    for names, _ in rows(tests, "function | what it is for"):
+        for shown in QUOTED.findall(names):
+            tests.expect(shown in functions, f"{shown}: there is no such function")
+    tests.end("functions that make no call on the page of programs")
+
+
 def functions_without_ensures():
     """The public functions of libraries that have no clause `ensures`."""
     for folder in sorted(glob.glob(os.path.join(CRATES, "*", "src"))):
@@ -1310,7 +1320,7 @@ def functions_without_ensures():
 def functions_without_clauses(tests):
     """The functions without `ensures` are those that the page of proofs names, and as many."""
     page = " ".join(read(DOCS, "proofs.md").split())
-    said = re.search(r"(\w+) functions have no `ensures`:(.*?)\. [A-Z]", page)
+    said = re.search(r"(\w+) public functions have no `ensures`\.(.*?)\. Unless", page)
     words = QUOTED.findall(said[2]) if said else []
     named = sorted(it.split("::")[-1] for it in words if it.split("::")[-1].islower())
     there = [it.split("::") for it in sorted(functions_without_ensures())]
@@ -1502,6 +1512,7 @@ def main(path):
     names_of_mechanisms(tests)
     names_of_arguments(tests)
     functions_of_programs(tests)
+    functions_besides_calls(tests)
     functions_without_clauses(tests)
     laws(tests)
     races_of_threads(tests)

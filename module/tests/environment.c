@@ -168,10 +168,11 @@ static size_t read_errors(char *text, size_t room) {
 }
 
 /* In place of the C library's function: it closes the file, and answers this error where it isn't
- * 0. */
+ * 0. A thread that is cancelled ends here, as it does in that function. */
 static int close_error;
 
 int close(int file) {
+    pthread_testcancel();
     int result = (int)syscall(SYS_close, file);
     if (result != 0 || close_error == 0)
         return result;
@@ -351,6 +352,14 @@ static void check_seed(const char *value) {
     check_variable("OSPREYRACK_SEED", value, part);
 }
 
+/* A variable that isn't the module's is passed over, however near its name is. */
+static void check_other_variable(const char *name) {
+    setenv(name, "OSPREYRACK_SEED=x", 1);
+    EXPECT(CKR_OK, p11->C_Initialize(NULL));
+    EXPECT(CKR_OK, p11->C_Finalize(NULL));
+    unsetenv(name);
+}
+
 static void test_bad_variables(void) {
     static const char *const seeds[] = {"x", "-1", "+1", " 1", "1 ", "0x10", "1.0",
                                         "18446744073709551616"};
@@ -360,12 +369,16 @@ static void test_bad_variables(void) {
         "OSPREYRACK_SEEDS", "OSPREYRACK_",
         "OSPREYRACK_0123456789012345678901234567890123456789012345678901234567890",
     };
+    static const char *const others[] = {"OSPREYRACK", "OSPREYRACKS", "ospreyrack_seed",
+                                         "MY_OSPREYRACK_SEED"};
     for (size_t i = 0; i < sizeof seeds / sizeof *seeds; i++)
         check_seed(seeds[i]);
     for (size_t i = 0; i < sizeof known / sizeof *known; i++)
         check_variable(known[i], "", ": the value is empty\n");
     for (size_t i = 0; i < sizeof unknown / sizeof *unknown; i++)
         check_variable(unknown[i], "1", ": there is no such variable\n");
+    for (size_t i = 0; i < sizeof others / sizeof *others; i++)
+        check_other_variable(others[i]);
     check_variable("OSPREYRACK_CUT", "maybe", ": the value is yes or no, and not maybe\n");
     check_variable("OSPREYRACK_CUT", "YES", ": the value is yes or no, and not YES\n");
     check_variable("OSPREYRACK_CUT", "yess", ": the value is yes or no, and not yess\n");

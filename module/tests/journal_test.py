@@ -522,8 +522,8 @@ class Tests:
     def test_script(self):
         """A script prepares PINs and a key, once for each token."""
         script, path = self.file("script"), self.file("scripted.cases")
-        lines = ["# PINs and a key", "1 InitToken 31323334 -> 0", "", *LOG_IN[1:5],
-                 "1 Login 1 1 75736572 -> 0",
+        lines = ["# PINs and a key", "limits largest", "1 InitToken 31323334 -> 0", "",
+                 *LOG_IN[1:5], "1 Login 1 1 75736572 -> 0",
                  "1 CreateObject 1 0=0400000000000000,100=1000000000000000,1=01,3=6b6579,"
                  "11=4a656665"]
         write(script, "\n".join(lines).encode())
@@ -538,7 +538,8 @@ class Tests:
                               f"0 {1 + ((2 + count) << 32)}", "the key")
             self.end()
         self.checks.equal(read(path).count(b"CreateObject"), 1, "the script's calls in the file")
-        self.begin(SCRIPT=script)
+        os.symlink(script, self.file("link"))
+        self.begin(SCRIPT=self.file("link"))
         self.checks.equal(self.module.say("1 GetTokenInfo"), "0 40c 64 0 0", "without a file")
         self.end()
         support.audit(self.checks, self.ck_cases, path)
@@ -747,7 +748,7 @@ class Tests:
             code, errors = self.initialize(SEED=1, JOURNAL=path, SCRIPT=script)
             self.checks.equal(code, GENERAL_ERROR, "C_Initialize with a bad script")
             self.checks.equal(errors, f"ospreyrack: OSPREYRACK_SCRIPT: {script}, line 1: this is "
-                              "no call (ck_run says why)\n", "the errors")
+                              "no call (ck_cases says why)\n", "the errors")
             made.append(self.random_of_start())
         self.checks.check(made[0] != made[1], "random bytes that follow from no seed")
         self.checks.equal(read(path), b"", "the journal")
@@ -987,7 +988,13 @@ class Tests:
             os.close(number)
         self.checks.equal((read(self.file("another")), read(path)), (before, content), "the files")
         self.begin(TOKEN=path)
-        self.end()
+        # where no other file has got the number, closing it is no second error
+        with open(self.file("another"), "r+b") as other, errors_in(self.file("errors")):
+            os.close(give_away(path, other))
+            self.checks.equal(self.module.say("1 GetTokenInfo"), DEVICE_ERROR, "a call after that")
+            self.end()
+        self.checks.equal(read(self.file("errors")).decode(), "ospreyrack: OSPREYRACK_TOKEN: a "
+                          "call can't be written: the file was closed\n", "the errors of both")
 
     def test_lost_file(self):
         """A file that is deleted or cut short while its token is in use takes no more calls."""
@@ -1501,6 +1508,17 @@ class Tests:
         self.checks.check(held < 1 << 20, f"{held} bytes are held")
         self.end()
 
+    def test_long_message(self):
+        """A message takes as much memory as it has bytes, and not twice as much."""
+        self.begin()
+        self.say_all(["1 InitToken 31323334", "1 OpenSession 6", "1 DigestInit 1 250"])
+        update = "1 DigestUpdate 1 " + "00" * (1 << 20)
+        before = memory_in_use()
+        self.checks.equal(self.say_all([update] * 4), ["0"] * 4, "the calls")
+        held = memory_in_use() - before
+        self.checks.check(4 << 20 <= held < 5 << 20, f"the journal has four messages: {held} bytes")
+        self.end()
+
     def test_cut(self):
         """No reply differs by OSPREYRACK_CUT."""
         lines = list(LOG_IN)
@@ -1546,7 +1564,7 @@ TESTS = [Tests.test_file, Tests.test_counted_journals, Tests.test_mode, Tests.te
          Tests.test_filling, Tests.test_filling_in_update, Tests.test_filling_in_search,
          Tests.test_pieces_of_search, Tests.test_time_of_lines, Tests.test_seed,
          Tests.test_nobody_reads_errors, Tests.test_signals_in_errors, Tests.test_seeded_bytes,
-         Tests.test_long_template, Tests.test_cut, Tests.test_memory]
+         Tests.test_long_template, Tests.test_long_message, Tests.test_cut, Tests.test_memory]
 
 
 def run_test(checks, test):

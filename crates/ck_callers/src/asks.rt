@@ -20,7 +20,8 @@ pub enum Ask {
 }
 
 /// What is answered to a question: the reply that the call would get, or the types of all
-/// mechanisms (CK_MECHANISM_TYPE) in ascending order.
+/// mechanisms (CK_MECHANISM_TYPE) in ascending order. These aren't a reply, whose list would take
+/// memory.
 #[derive(Drop)]
 pub enum Status {
     Reply(Reply),

@@ -80,7 +80,7 @@ impl<K: TokenId> BoardCopy<K> {
     }
 }
 
-/// No contract says which history the two copies are of once they have taken in a slot: that is
+/// No contract says which history the two copies are of once a slot was applied to them: that is
 /// read off the published copy.
 impl<K: TokenId> Absorb<BoardSlot<K>> for BoardCopy<K> {
     type State = ();

@@ -6,7 +6,7 @@ use crate::callers::Caller;
 use crate::identity::TokenId;
 use std::marker::{Model, PhantomData};
 
-/// How many callers a token has.
+/// How many callers a token has. A type of its own, so that its invariant ties the number to `K`.
 #[derive(Drop)]
 pub struct CallerCount<K: TokenId> {
     count: u32,

@@ -34,7 +34,7 @@ impl HistoryId for Brand {
     ghost limits = { record { sessions = 1; openings = 1; creations = 1; logins = 1 } };
 }
 
-/// A history without entries, which has no name yet.
+/// A history without entries, which no type stands for yet.
 pub struct NewHistory {
     head: Word<Entry, u64, LengthOfLog>,
     seen: Seen<Entry, u64, LengthOfLog>,

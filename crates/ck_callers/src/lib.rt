@@ -3,10 +3,10 @@
 //! the state that callers read without the lock; and runs of callers, each in a thread of its own,
 //! through a gate (what answers their calls).
 //!
-//! Only ck_shared uses these, for what lies under the lock: `Front`, `Head`, `KnownHistory`,
-//! `CallBooks`, `BoardSlot`, `BoardCopy`, `CallerCount`, `Opened` and `Account`, and of `Caller`
-//! the methods `account`, `known`, `follow` and `show_settled`. The types that they name are public
-//! with them: `HistoryId`, `NewHistory`, `CallerLedger` and `NewLedgers`.
+//! Only ck_shared uses these, to open a token and for what lies under its lock: `Front`, `Head`,
+//! `KnownHistory`, `CallBooks`, `BoardSlot`, `BoardCopy`, `CallerCount`, `Opened` and `Account`,
+//! and of `Caller` the methods `account`, `known`, `follow` and `show_settled`. The types that they
+//! name are public with them: `HistoryId`, `NewHistory`, `CallerLedger` and `NewLedgers`.
 #![tactic(auto)]
 
 mod asks;

@@ -13,7 +13,8 @@ use ck_journal::JournaledToken;
 use ck_types::Limits;
 use std::alloc::Global;
 
-/// The most reads of a script, 2^32.
+/// The most reads of a script, 2^32. There is a bound, since it is proved that playing ends, and a
+/// source may have no end.
 pub const MOST_READS: u64 = 4_294_967_296;
 
 /// Plays a script on a new token, in at most 2^32 reads.

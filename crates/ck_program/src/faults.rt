@@ -100,6 +100,7 @@ impl From<io::Error> for ArgumentFault {
     fn from(error: io::Error) -> ArgumentFault {
         match error.kind() {
             io::ErrorKind::OutOfMemory => ArgumentFault::Memory,
+            // Only an argument that isn't text is another error.
             _ => ArgumentFault::Bad(BadArguments::NotText),
         }
     }

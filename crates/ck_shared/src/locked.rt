@@ -87,7 +87,7 @@ fn publish_slot<K: TokenId, T: JournaledToken, R: Wait + Drop, W: Wait>(
     ensures pending { pending writer.new ≡ [] }
 {
     // The first pass returns. The loop is for the prover: no contract of the writer says what its
-    // copies took in, so it is read off the published board.
+    // copies then have, so it is read off the published board.
     for _ in rt.forever() {
         slot.fill(token.board(), known);
         if writer.publish().is_ok() && known.covers(writer.published().known()) {
@@ -131,8 +131,8 @@ fn extend<K: TokenId, T: JournaledToken, W: Wait>(
     requires next { (e : Entry) × ((T.state token.now).history ≡ e ◁ front.old) }
     ensures { (front.new ≡ (T.state token.now).history) × IsFront other.now front.old }
 {
-    // The first pass returns: only who holds the lock adds entries. No contract of the common log
-    // says so.
+    // The first pass returns: only who holds the lock adds entries. No contract of `logbook` says
+    // so.
     for _ in rt.forever() {
         if let Some(entry) = token.journal().newest()
             && front.add_after(head, other, entry)
@@ -238,9 +238,9 @@ impl<K: TokenId, T: JournaledToken, R: Wait + Drop> Locked<K, T, R> {
         show_is_front(rt, front, self.known.front());
     }
 
-    /// One call of a caller, never a question, though a `Step` may be one. Where there is no memory
-    /// for it, nothing has changed. Where the call may change the board, it may wait for those who
-    /// still read an older copy.
+    /// One call of a caller. (A `Step` of ck_callers may also be a question.) Where there is no
+    /// memory for it, nothing has changed. Where the call may change the board, it may wait for
+    /// those who still read an older copy.
     // Inlined, since a function that only hands a call on would copy it.
     #[inline(always)]
     pub fn step<W: Wait>(

@@ -36,11 +36,11 @@ pub struct TakenMessage<K: TokenId> {
 /// How many times a thread looks whether the lock is free before it sleeps.
 const LOOKS: u32 = 11;
 
-/// How many looks come before a thread lets others run. Together they take about a microsecond.
+/// After how many looks a thread only pauses. These pauses take about a microsecond together.
 const QUICK_LOOKS: u32 = 5;
 
-/// How many times a thread lets others run before the first of the later looks, which takes about
-/// 20 microseconds, and twice as many times before each look after it.
+/// How many times a thread lets others run after the look that follows, which takes about 20
+/// microseconds. After each later look these are twice as many times as before.
 const YIELDS: u32 = 64;
 
 /// Lets other threads run this many times.

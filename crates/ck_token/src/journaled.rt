@@ -14,7 +14,7 @@ impl JournaledToken for Token {
         Token::from_base(alloc, limits, base)
     }
 
-    // Inlined, here and below: a function that only hands a call on would copy it.
+    // Inlined, as those below: a function that only hands on a call or a board would copy it.
     #[inline(always)]
     fn call(&mut self, alloc: Global, caller: u32, call: Call) -> Result<Reply, NoMemory> {
         Token::call(self, alloc, caller, call)
