@@ -52,7 +52,7 @@ fn callers_of<K: TokenId, R: Wait + Drop>(
     let mut callers = Vec::with_capacity(alloc, accounts.len())?;
     for account in accounts {
         let reader = writer.handle()?;
-        callers.push(Caller::new(account, known, reader))?;
+        callers.push_reserved(Caller::new(account, known, reader));
     }
     Ok(callers)
 }

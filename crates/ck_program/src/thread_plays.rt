@@ -79,7 +79,7 @@ fn scripts_of<K: TokenId>(
     let mut scripts = Vec::with_capacity(alloc, callers.len())?;
     for caller in callers {
         let script = script_of(alloc, caller, calls)?;
-        scripts.push(script)?;
+        scripts.push_reserved(script);
     }
     Ok(scripts)
 }
@@ -124,7 +124,7 @@ fn callers_of<K: TokenId>(
     let mut callers = Vec::with_capacity(alloc, scripts.len())?;
     for script in scripts {
         let caller = caller_of(script)?;
-        callers.push(caller)?;
+        callers.push_reserved(caller);
     }
     Ok(callers)
 }

@@ -76,7 +76,7 @@ pub(crate) fn queries_decision(
     let mut rv = Rv::Ok;
     for query in queries {
         let (answer, code) = query_answer(alloc, attributes, query)?;
-        answers.push(answer)?;
+        answers.push_reserved(answer);
         rv = higher(rv, code);
     }
     Ok(Decision {

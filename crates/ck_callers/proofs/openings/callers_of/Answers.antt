@@ -1,4 +1,4 @@
-use Rattle.std.proofs.Common.{sym, ◌∙◌, subst}
+use Rattle.std.proofs.Common.{length, sym, ap, ◌∙◌, subst, arith}
 use Rattle.std.specs.Prelude.{vec_items}
 use Rattle.std.specs.Vec.Iter.{into_iter_items}
 use Rattle.ck_callers.specs.Accounts.{AreNew}
@@ -15,9 +15,24 @@ loop-account-preserved g c =
     (vec_items c.loop-account.callers)
     (into_iter_items c.loop-account.account-iterator) c.loop-account.invariant.3 c.in-Some.account
     (into_iter_items c.next.new.self) c.in-Some.ensures.steps.0 c.loop-account.invariant.2
-    c.new.result c.new.ensures (vec_items c.push.new.self)
-    c.in_ok-push.ensures.items in
-    (tt, tt, next.0, next.1)
+    c.new.result c.new.ensures (vec_items c.push_reserved.new.self)
+    c.push_reserved.ensures.items in (
+      tt,
+      tt,
+      next.0,
+      next.1,
+      omega (
+        arith,
+        ap length c.in-Some.ensures.steps.0,
+        c.loop-account.invariant.4,
+        c.push_reserved.ensures.len,
+        c.push_reserved.ensures.capacity,
+      ),
+    )
+
+pub push_reserved-requires : goal.push_reserved-requires
+push_reserved-requires g c =
+    omega (arith, ap length c.in-Some.ensures.steps.0, c.loop-account.invariant.4)
 
 pub returns : goal.returns
 returns g c =

@@ -1,4 +1,4 @@
-use Rattle.std.proofs.Common.{sym, subst, arith}
+use Rattle.std.proofs.Common.{length, sym, ap, subst, arith}
 use Rattle.std.specs.Prelude.{All, vec_items}
 use Rattle.std.specs.Vec.Iter.{into_iter_items}
 use Rattle.std.proofs.lemmas.List.Elements.{All-push, All-tail}
@@ -17,7 +17,7 @@ loop-caller-preserved g c =
     let left = subst (All IsNewCaller) c.in-Some.ensures.steps.0 c.loop-caller.invariant.3 in (
       tt,
       tt,
-      subst (All (IsUnplayed calls)) (sym c.in_ok-push.ensures.items)
+      subst (All (IsUnplayed calls)) (sym c.push_reserved.ensures.items)
           (All-push (IsUnplayed calls) (vec_items c.loop-caller.scripts) c.in_ok-script.script
           c.loop-caller.invariant.2
           c.in_ok-script.ensures.unplayed),
@@ -26,5 +26,16 @@ loop-caller-preserved g c =
           _ c.in_ok-script.script
           (into_iter_items c.loop-caller.caller-iterator) (into_iter_items c.next.new.self)
           c.in-Some.caller (caller_numbers (vec_items c.args.callers)) c.loop-caller.invariant.4
-          c.in-Some.ensures.steps.0 c.in_ok-push.ensures.items c.in_ok-script.ensures.number,
+          c.in-Some.ensures.steps.0 c.push_reserved.ensures.items c.in_ok-script.ensures.number,
+      omega (
+        arith,
+        ap length c.in-Some.ensures.steps.0,
+        c.loop-caller.invariant.5,
+        c.push_reserved.ensures.len,
+        c.push_reserved.ensures.capacity,
+      ),
     )
+
+pub push_reserved-requires : goal.push_reserved-requires
+push_reserved-requires g c =
+    omega (arith, ap length c.in-Some.ensures.steps.0, c.loop-caller.invariant.5)

@@ -17,7 +17,7 @@ loop-query-preserved c =
     let other : AttributeQuery = record { kind = 0; room = None } in
     let within : index < length queries = omega arith in
     let next : index + 1 ≡ suc index = omega arith in (
-      c.in_ok-push.ensures.items
+      c.push_reserved.ensures.items
           ∙ ap (λ answers. answers ++ (c.in_ok-answer.answer ∷ [])) c.loop-query.invariant.0
           ∙ ap (λ answer. map (query_answer items) (take index queries) ++ (answer ∷ []))
           c.in_ok-answer.ensures.answer
@@ -29,7 +29,12 @@ loop-query-preserved c =
           ∙ ap (λ rv. higher rv c.in_ok-answer.code) c.loop-query.invariant.1
           ∙ ap (higher (queries_code items (take index queries))) c.in_ok-answer.ensures.code
           ∙ sym (code-next items index queries other within),
+      omega (arith, c.push_reserved.ensures.len, c.loop-query.invariant.2),
+      omega (arith, c.push_reserved.ensures.capacity, c.loop-query.invariant.3),
     )
+
+pub push_reserved-requires : goal.push_reserved-requires
+push_reserved-requires c = omega (arith, c.loop-query.invariant.2, c.loop-query.invariant.3)
 
 pub loop-query-init : goal.loop-query-init
 loop-query-init c = grind (arith, common_steps)
