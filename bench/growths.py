@@ -27,10 +27,10 @@ Calls for which room in the journal is reserved are made while every growth is r
 What is made again in a case is counted also where another case follows. What a cut takes out is
 audited, as it was before the cut, which takes memory for each call with bytes; a cut that is
 refused takes none for the objects. A refused creation takes no memory for its object, and a value
-of which only the length is asked, or for which there is too little room, none either. The help, a
-reason for bad arguments and one for a bad name are written whole, or the program says that it is
-out of memory; the nearest name may lack. And only where a growth of a thread is refused does the
-program say that one isn't started.
+of which only the length is asked, or for which there is too little room, none either. The journal
+takes memory for 512 entries at once. The help, a reason for bad arguments and one for a bad name
+are written whole, or the program says that it is out of memory; the nearest name may lack. And only
+where a growth of a thread is refused does the program say that one isn't started.
 
 Each run without a refused growth must have growths, and in all some must be refused and something
 made again: else the library that refuses them isn't loaded.
@@ -96,6 +96,10 @@ ALIKE = [
     [f"1 GetAttributeValue 1 1 {query}" for query in ("10:?", "11:?", "11:5")],
     [f"1 CreateObject 2 {PRIVATE}", f"1 CreateObject 1 {PRIVATE}"],
 ]
+
+# A call that takes no memory itself, and for how many entries the journal takes memory at once.
+FREE_CALL = b"1 GetTokenInfo\n"
+SEGMENT = 512
 
 # Words of ck_run and a script for which it writes a text, and what may lack of that.
 TEXTS = [(["--help"], b"", b""), (["--nothing"], b"", b""),
@@ -289,8 +293,8 @@ def check_cut(library):
 
 
 def check_refused_cut(library):
-    """A cut that is refused, since a session is open, makes no copies of the objects. The journal is
-    audited before it."""
+    """A cut that is refused, since a session is open, makes no copies of the objects. The journal
+    is audited before it."""
     growths = []
     for last in ("audit largest -> legal", "cut -> a session is open"):
         lines = [*CREATIONS, last]
@@ -313,6 +317,12 @@ def check_alike(library):
         if len({*growths}) != 1 or growths[0] == 0:
             faults.append(f"{calls} have {growths} growths")
     return 0, 0, faults
+
+
+def check_segment(library):
+    """The journal takes memory for many entries at once, and no other for them."""
+    one, many = (play(library, [SCRIPTS], FREE_CALL * calls, 0).growths for calls in (1, SEGMENT))
+    return 0, 0, [] if one == many > 0 else [f"a call has {one} growths, and {SEGMENT} have {many}"]
 
 
 def check_text(library, words, script, may_lack):
@@ -378,6 +388,7 @@ def checks_of_scripts(library):
     """What is checked of growths of short scripts, and of texts: functions, each with its
     arguments."""
     yield check_alike, library
+    yield check_segment, library
     for words, script, may_lack in TEXTS:
         yield check_text, library, words, script, may_lack
     for callers in (1, 2):

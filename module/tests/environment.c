@@ -497,7 +497,7 @@ static void test_bad_files(void) {
     write_file("no_journal", no_journal);
     mkdir(path_of("folder"), 0700);
     check_file_variable("OSPREYRACK_SCRIPT", "not_there", "not_there");
-    check_file_variable("OSPREYRACK_SCRIPT", "bad_line", "line 4: this is no call (ck_run says "
+    check_file_variable("OSPREYRACK_SCRIPT", "bad_line", "line 4: this is no call (ck_cases says "
                         "why)\n");
     check_file_variable("OSPREYRACK_SCRIPT", "bad_reply", "line 2: the reply is 0 1, and not 0 2");
     check_file_variable("OSPREYRACK_SCRIPT", "bad_code", "bad_code, line 1: the reply is a2\n");
