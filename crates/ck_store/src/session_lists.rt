@@ -52,7 +52,7 @@ impl SessionList {
             → Contains self.old.places.items p ⊎ (p ≡ place) }
     {
         make_room(objects, &mut self.places)?;
-        self.places.push(place)?;
+        self.places.push_reserved(place);
         Ok(())
     }
 }
@@ -66,6 +66,7 @@ fn make_room(objects: &Slab<StoredObject>, places: &mut Vec<Place>) -> Result<()
     ensures only { (p : Place) → Contains places.new.items p → Contains places.old.items p }
     ensures dropped { vec_len places.old ≡ vec_capacity places.old
         → All (λ p. is_there objects.now p ≡ true) places.new.items }
+    ensures room { OnOk result (vec_len places.new < vec_capacity places.new) }
 {
     if places.len() == places.capacity() {
         drop_ended(objects, places);
