@@ -110,12 +110,12 @@ SILENT = {
 # Tests of a file, to which it is all the same which program is there.
 OTHERS = (races.shapes, rules.limits, rules.checks_of_calls, rules.codes, rules.reasons,
           rules.statuses, rules.statuses_of_cases, rules.names_of_mechanisms,
-          rules.names_of_arguments, rules.functions_of_programs, rules.functions_without_clauses,
-          rules.laws, rules.races_of_threads, rules.sketch_of_call, rules.numbers_of_pages,
-          rules.functions_of_module, rules.clients_of_module, rules.lines_of_answers,
-          figures.readings, figures.readings_of_module, figures.times_of_calls,
-          figures.asks_behind_many_calls, figures.bounds, figures.bounds_of_module,
-          figures.sections)
+          rules.names_of_arguments, rules.functions_of_programs, rules.functions_besides_calls,
+          rules.functions_without_clauses, rules.laws, rules.races_of_threads, rules.sketch_of_call,
+          rules.numbers_of_pages, rules.functions_of_module, rules.clients_of_module,
+          rules.lines_of_answers, figures.readings, figures.readings_of_module,
+          figures.times_of_calls, figures.asks_behind_many_calls, figures.bounds,
+          figures.bounds_of_module, figures.sections)
 
 # What a program of figures says of few calls, of many and of an audit, and whether the times can be
 # those of the calls and of the audit.
@@ -512,15 +512,17 @@ esac
 
 # How many growths it has, what it does where one is refused, and how many faults are found.
 TOLD = [
-    ("9", ":", [0, 0, 0, 0, 0, 0]),
-    ("9", 'echo "ck_run: out of memory" >&2; exit 3', [0, 0, 0, 0, 1, 1]),
-    ("9", 'echo "ck_run: line 1: bad" >&2; exit 1', [0, 9, 9, 0, 1, 1]),
-    ("9", "exit 0", [0, 9, 9, 9, 1, 1]),
-    ("0", ":", [2, 1, 1, 1, 1, 1]),
+    ("9", ":", [0, 0, 0, 0, 0, 0, 0]),
+    ("9", 'echo "ck_run: out of memory" >&2; exit 3', [0, 0, 0, 0, 0, 1, 1]),
+    ("9", 'echo "ck_run: line 1: bad" >&2; exit 1', [0, 0, 9, 9, 0, 1, 1]),
+    ("9", "exit 0", [0, 0, 9, 9, 9, 1, 1]),
+    ("0", ":", [2, 1, 1, 1, 1, 1, 1]),
     ('$(case "$script" in *11:?* | *"Object 2"*) echo 8 ;; *) echo 9 ;; esac)', ":",
-     [2, 0, 0, 0, 0, 0]),
+     [2, 0, 0, 0, 0, 0, 0]),
+    ('$(case "$script" in *Info*Info*Info*) echo 8 ;; *) echo 9 ;; esac)', ":",
+     [0, 1, 0, 0, 0, 0, 0]),
     ("9", '[ $# != 2 ] || { echo "ck_run: thread not started" >&2; exit 3; }',
-     [0, 0, 0, 0, 1, 1]),
+     [0, 0, 0, 0, 0, 1, 1]),
 ]
 
 # What is wrong then.
