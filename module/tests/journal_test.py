@@ -460,6 +460,14 @@ class Tests:
         self.end()
         name = self.file(f"%-%{numbers[0] + 3}-%x.cases")
         self.checks.check(os.path.exists(name), "a % before another letter stays")
+        # one that couldn't be begun counts, too, and a child of a fork counts on
+        code, _ = self.initialize(JOURNAL=self.file("none/%n"))
+        self.checks.equal(code, GENERAL_ERROR, "C_Initialize with a file in no folder")
+        path = self.file("child-%n.cases")
+        with self.child_of_fork(lambda: [str(self.module.initialize(JOURNAL=path))]) as seen:
+            self.checks.equal(seen, ["0"], "C_Initialize in a child of a fork")
+        name = self.file(f"child-{numbers[0] + 5}.cases")
+        self.checks.check(os.path.exists(name), "the number of a child's journal")
         Worker(self.path, JOURNAL=self.file("first-%n.cases")).end()
         self.checks.check(os.path.exists(self.file("first-1.cases")), "a process begins at 1")
 
