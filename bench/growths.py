@@ -26,11 +26,12 @@ Calls for which room in the journal is reserved are made while every growth is r
 
 What is made again in a case is counted also where another case follows. What a cut takes out is
 audited, as it was before the cut, which takes memory for each call with bytes; a cut that is
-refused takes none for the objects. A refused creation takes no memory for its object, and a value
-of which only the length is asked, or for which there is too little room, none either. The journal
-takes memory for 512 entries at once. The help, a reason for bad arguments and one for a bad name
-are written whole, or the program says that it is out of memory; the nearest name may lack. And only
-where a growth of a thread is refused does the program say that one isn't started.
+refused takes none for the objects. A refused creation, copy, generation or change takes no memory
+for its object or its values, and a value of which only the length is asked, or for which there is
+too little room, none either. A creation that finds no memory for the mark of a label is answered.
+The journal takes memory for 512 entries at once. The help, a reason for bad arguments and one for a
+bad name are written whole, or the program says that it is out of memory; the nearest name may lack.
+And only where a growth of a thread is refused does the program say that one isn't started.
 
 Each run without a refused growth must have growths, and in all some must be refused and something
 made again: else the library that refuses them isn't loaded.
@@ -87,14 +88,19 @@ CREATIONS = ["1 InitToken 31323334 -> 0", "1 OpenSession 6 -> 0 1", *(
     f"1 CreateObject 1 0=0000000000000000,3={'61' * 100} -> 0 {number}"
     for number in range(1, CREATED + 1))]
 
-# Calls that are answered with as many growths as one another, behind these first ones: of queries,
-# and of creations that are refused.
+# Calls that are answered with as many growths as one another, behind these first ones: queries, and
+# calls that are refused in a session that isn't open and, for their template, in one that is.
 VALUE = f"11={'61' * 100}"
 FIRST = f"1 InitToken 31323334\n1 OpenSession 6\n1 CreateObject 1 0=0000000000000000,{VALUE}\n"
 PRIVATE = f"0=0000000000000000,2=01,{VALUE}"
 ALIKE = [
     [f"1 GetAttributeValue 1 1 {query}" for query in ("10:?", "11:?", "11:5")],
-    [f"1 CreateObject 2 {PRIVATE}", f"1 CreateObject 1 {PRIVATE}"],
+    *([call.format(session) for session in (2, 1)] for call in (
+        f"1 CreateObject {{}} {PRIVATE}",
+        "1 CopyObject {} 1 2=01",
+        f"1 GenerateKey {{}} 350 161=2000000000000000 {'61' * 32}",
+        f"1 SetAttributeValue {{}} 1 1=00,{VALUE}",
+    )),
 ]
 
 # A call that takes no memory itself, and for how many entries the journal takes memory at once.
@@ -319,6 +325,23 @@ def check_alike(library):
     return 0, 0, faults
 
 
+def count_passed_over(library, script):
+    """After how many refused growths all replies are written nevertheless."""
+    plain = play(library, [SCRIPTS], script.encode(), 0)
+    ends = [play(library, [SCRIPTS], script.encode(), growth)
+            for growth in range(1, plain.growths + 1)]
+    return sum(ended[:3] == plain[:3] for ended in ends)
+
+
+def check_marks(library):
+    """A creation is answered where there is no memory for the mark of the object's label."""
+    before = FIRST[:FIRST.index("1 CreateObject")]
+    created, other = (count_passed_over(library, script) for script in (FIRST, before))
+    if created == other + 1:
+        return 0, 0, []
+    return 0, 0, [f"with a creation {created} refused growths are passed over, and {other} without"]
+
+
 def check_segment(library):
     """The journal takes memory for many entries at once, and no other for them."""
     one, many = (play(library, [SCRIPTS], FREE_CALL * calls, 0).growths for calls in (1, SEGMENT))
@@ -388,6 +411,7 @@ def checks_of_scripts(library):
     """What is checked of growths of short scripts, and of texts: functions, each with its
     arguments."""
     yield check_alike, library
+    yield check_marks, library
     yield check_segment, library
     for words, script, may_lack in TEXTS:
         yield check_text, library, words, script, may_lack

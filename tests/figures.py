@@ -12,6 +12,7 @@ import contextlib
 import copy
 import io
 import os
+import re
 import sys
 import tempfile
 from unittest import mock
@@ -242,6 +243,18 @@ def asks_behind_many_calls(tests):
 # ---- What is judged
 
 
+def counts_of_callers(tests):
+    """The callers of ck_bench make as many calls as bench/measure.py takes them to make, and those
+    that ask behind many calls make 200,000 before."""
+    with open(os.path.join(measure.CRATES, "ck_bench", "src", "threads.rt"),
+              encoding="utf-8") as file:
+        made = dict(re.findall(r"let (\w+) = Task::new\(Round::Change, asks / (\d+)\)",
+                               file.read()))
+    tests.expect(made == {"all_changes": "25", "change": "100"}, f"callers change: {made}")
+    tests.expect(3 * ASKS // 25 >= 200_000, f"{ASKS} questions have too few calls beside them")
+    tests.end("how many calls the callers of ck_bench make")
+
+
 def figures_at(figures, where):
     return {name: time for (at, name), time in figures.items() if at == where}
 
@@ -367,6 +380,7 @@ def main(path):
     readings_of_module(tests)
     times_of_calls(tests)
     asks_behind_many_calls(tests)
+    counts_of_callers(tests)
     bounds(tests)
     bounds_of_module(tests)
     sections(tests)

@@ -89,7 +89,8 @@ PAGES_OF_PROMISES = ("docs/laws.md", "docs/proofs.md", "docs/module.md")
 
 # The lines by which a script finds and counts what has failed; with the last one it ends.
 VERDICTS = {
-    "check": ['if [ "$status" -eq 0 ]; then', "failed=$((failed + 1))",
+    "check": ['if [ "$status" -eq 0 ] && ! grep -q "^FAILED " "$output"; then',
+              "failed=$((failed + 1))",
               'count "$name" "${PIPESTATUS[0]}" "$outputs/last"', "status=$?",
               'count "${begun[at]}" "$status" "$outputs/$at"',
               '[ "${PIPESTATUS[0]}" -eq 0 ] && ! grep -q ": BAD EDIT: " "$outputs/rt ci"',
@@ -506,7 +507,8 @@ def width_faults():
 
 
 def verdict_faults():
-    """The scripts that start all checks end with another status than 0 where one has failed."""
+    """The scripts that start checks, and those that make them, end with another status than 0 where
+    one has failed."""
     for path, wanted in VERDICTS.items():
         lines = [line.strip() for line in text_of(path).split("\n")]
         for line in wanted:
@@ -514,6 +516,9 @@ def verdict_faults():
                 yield f"{path}: the line {line} doesn't stand there once"
         if lines[-2:] != [wanted[-1], ""]:
             yield f"{path} doesn't end with the line {wanted[-1]}"
+    for path in [*files("tests/*.py"), "bench/growths.py", "docs/contracts.py"]:
+        if not text_of(path).rstrip("\n").split("\n")[-1].strip().startswith("sys.exit(main("):
+            yield f"{path} doesn't end with the status of its main"
 
 
 def start_faults():

@@ -2,8 +2,8 @@
 """Tests of the tests of programs: program.py, rules.py, speed.py, recorded_runs.py, races.py and
 figures.py beside this file, and bench/growths.py. Each must pass on a right program, and fail on
 one that is wrong in one thing that it can see. And refusals.py must notice an edit that isn't
-refused at its clause, rules.py other pages, and inventory.py and docs/contracts.py changes of a
-copy of the repository.
+refused at its clause and a program that isn't run, rules.py other pages, and inventory.py and
+docs/contracts.py changes of a copy of the repository.
 
 The programs are those that `rt ci` leaves. This needs a C compiler, `cc`, as growths.py does.
 """
@@ -113,7 +113,8 @@ OTHERS = (races.shapes, rules.limits, rules.checks_of_calls, rules.codes, rules.
           rules.names_of_arguments, rules.functions_of_programs, rules.functions_besides_calls,
           rules.functions_without_clauses, rules.laws, rules.races_of_threads, rules.sketch_of_call,
           rules.numbers_of_pages, rules.functions_of_module, rules.clients_of_module,
-          rules.lines_of_answers, figures.readings, figures.readings_of_module,
+          rules.lines_of_answers, rules.links, rules.toolchain, program.threads_of_share,
+          figures.readings, figures.counts_of_callers, figures.readings_of_module,
           figures.times_of_calls, figures.asks_behind_many_calls, figures.bounds,
           figures.bounds_of_module, figures.sections)
 
@@ -238,6 +239,11 @@ PAGES = [
     (rules.clients_of_module, "module.md", "run eleven real", "run ten real"),
     (rules.clients_of_module, "module.md", "call from 8, 16 and 32", "call from 8, 16 and 64"),
     (rules.lines_of_answers, "proofs.md", "some 1,300 lines", "some 1,200 lines"),
+    (rules.links, "laws.md", "^# ", "# New "),
+    (rules.links, "module.md", "^## What is proved", "## What was proved"),
+    (rules.links, "rust.md", r"[(]threads[.]md", "(thread.md"),
+    (rules.toolchain, "../README.md", "`logic dac", "`logic dad"),
+    (rules.toolchain, "../README.md", "`rattle-kit-", "`rattle-kit "),
 ]
 
 # Changes of sources in the folder crates with which such a page no longer agrees.
@@ -273,7 +279,11 @@ SOURCES = [
 # Changes of `check` by which a part that ends isn't counted as it ends, and its status.
 UNCOUNTED = [
     ("", "", 0),
-    ('if [ "$status" -eq 0 ]; then', "if true; then", 1),
+    ('if [ "$status" -eq 0 ] && ! grep -q "^FAILED " "$output"; then', "if true; then", 1),
+    (' && ! grep -q "^FAILED " "$output"', "", 1),
+    ('[ "$status" -eq 0 ] && ! grep', "! grep", 1),
+    ("left out|skipped", "left-out|skipped", 1),
+    ("left out|skipped", "left out|skip", 1),
     ("failed + 1", "failed + 0", 1),
     ('"${PIPESTATUS[0]}" "$outputs/last"', '0 "$outputs/last"', 1),
     ("status=$?", "status=0", 1),
@@ -454,14 +464,15 @@ WRONG_ENDS = [
 
 
 # A program that plays cases, a script, a script in threads, a race and calls with reserved room as
-# it must, and says that it has this many growths for each line that passes. Where one of them is
-# refused it first does something else.
+# it must, and says that it has this many growths for each line that passes, and one more for a
+# script with a creation. Where one of them is refused it first does something else.
 GROWING = """\
 shift
 for file; do :; done
-lines=1
+lines=1 more=0
 [ -f "$file" ] && lines=$(/bin/grep -vc "^limits" "$file")
-printf $((%s * lines)) >&3
+case "$*$(/bin/cat)" in 1*Create*) more=1 ;; esac
+printf $((%s * lines + more)) >&3
 [ "$REFUSED_GROWTH $REFUSED_FROM" = "0 0" ] || { %s; }
 case "$* $REFUSED_GROWTH" in
 "--callers 1 1" | "--callers 2 1" | "--callers 2 2")
@@ -510,19 +521,21 @@ case "$*$script" in
 esac
 """
 
-# How many growths it has, what it does where one is refused, and how many faults are found.
+# How many growths it has, what it does where one is refused, and how many faults are found. First
+# it is right: with a creation it has one growth more, which it passes over.
 TOLD = [
-    ("9", ":", [0, 0, 0, 0, 0, 0, 0]),
-    ("9", 'echo "ck_run: out of memory" >&2; exit 3', [0, 0, 0, 0, 0, 1, 1]),
-    ("9", 'echo "ck_run: line 1: bad" >&2; exit 1', [0, 0, 9, 9, 0, 1, 1]),
-    ("9", "exit 0", [0, 0, 9, 9, 9, 1, 1]),
-    ("0", ":", [2, 1, 1, 1, 1, 1, 1]),
-    ('$(case "$script" in *11:?* | *"Object 2"*) echo 8 ;; *) echo 9 ;; esac)', ":",
-     [2, 0, 0, 0, 0, 0, 0]),
+    ('$(case "$script" in *Create*) echo 10 ;; *) echo 9 ;; esac)', ":", [0, 0, 0, 0, 0, 0, 0, 0]),
+    ("9", ":", [0, 1, 0, 0, 0, 0, 0, 0]),
+    ("9", 'echo "ck_run: out of memory" >&2; exit 3', [0, 1, 0, 0, 0, 0, 1, 1]),
+    ("9", 'echo "ck_run: line 1: bad" >&2; exit 1', [0, 1, 0, 9, 9, 0, 1, 1]),
+    ("9", "exit 0", [0, 1, 0, 9, 9, 9, 1, 1]),
+    ("0", ":", [5, 1, 1, 1, 1, 1, 1, 1]),
+    ('$(case "$script" in *11:?* | *"Object 2"* | *"Key 2"* | *"Value 2"*) echo 8 ;; *) echo 9 ;; '
+     'esac)', ":", [5, 1, 0, 0, 0, 0, 0, 0]),
     ('$(case "$script" in *Info*Info*Info*) echo 8 ;; *) echo 9 ;; esac)', ":",
-     [0, 1, 0, 0, 0, 0, 0]),
+     [0, 1, 1, 0, 0, 0, 0, 0]),
     ("9", '[ $# != 2 ] || { echo "ck_run: thread not started" >&2; exit 3; }',
-     [0, 0, 0, 0, 0, 1, 1]),
+     [0, 1, 0, 0, 0, 0, 1, 1]),
 ]
 
 # What is wrong then.
@@ -606,6 +619,14 @@ def idle_programs(checks):
             status = module.main("/bin/true")
         checks.expect(status == 1, f"{module.__name__}.py passes on a program that does nothing")
         judge(checks, module, "/bin/true", "a program that does nothing")
+    with unseen(), mock.patch.multiple(speed, **FEW_OBJECTS):
+        status = speed.main("/bin/true")
+    checks.expect(status == 1, "speed.py passes on a program that does nothing")
+    for module in (*TESTS, speed):
+        source = inspect.getsource(module.main)
+        made = set(re.findall(r"^    (\w+)\(tests\)$", source, re.MULTILINE))
+        wanted = {test.__name__ for test in tests_of(module)}
+        checks.expect(made == wanted, f"main of {module.__name__}.py: {made ^ wanted}")
     checks.end("a program that does nothing")
 
 
@@ -880,6 +901,29 @@ def refused_edits(checks):
     checks.end("edits that aren't refused at their clauses")
 
 
+def programs_not_run(checks):
+    """What `rt ci` says of programs and tests that it runs, with one line left out, and nothing."""
+    lines = [f"rt: {name} ran{builder}, and wrote what its file stdout has"
+             for name in ("ck_bench", "ck_cases", "ck_races", "ck_run", "ck_threads")
+             for builder in ("", " (built by Rattle's own compiler)")]
+    lines.append("rt: ck_run: its tests passed")
+    missing = list(refusals.programs_not_run("\n".join(lines)))
+    checks.expect(missing == [], f"all programs are run: {missing}")
+    for line in lines:
+        missing = list(refusals.programs_not_run("\n".join(it for it in lines if it != line)))
+        checks.expect(len(missing) == 1, f"without {line}: {missing}")
+    with tempfile.NamedTemporaryFile("w", suffix=".log") as log, unseen():
+        checks.expect(refusals.main(log.name) == 1, "a run of rt ci that says nothing passes")
+        with mock.patch.object(refusals, "faults_in", lambda output: []):
+            checks.expect(refusals.main(log.name) == 1, "a run without programs passes")
+            log.write("\n".join(lines))
+            log.flush()
+            checks.expect(refusals.main(log.name) == 0, "a run of all programs doesn't pass")
+        with mock.patch.object(refusals, "faults_in", lambda output: ["a fault"]):
+            checks.expect(refusals.main(log.name) == 1, "an edit that isn't refused passes")
+    checks.end("programs that rt ci doesn't run")
+
+
 def main():
     checks = program.Checks("noticing")
     program.MANY = program.MANY_SESSIONS = FEW_CALLS
@@ -891,6 +935,7 @@ def main():
     no_checks(checks)
     ends(checks)
     refused_edits(checks)
+    programs_not_run(checks)
     refused_growths(checks)
     judged_growths(checks)
     passed_over(checks)

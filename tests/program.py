@@ -3,8 +3,9 @@
 what it writes to standard output and standard error, and its status.
 
 The program is crates/ck_run/out/ck_run, which `rt ci` leaves and `rt run` in its folder builds, or
-the one that is named. For each test a line is printed that begins with passed, FAILED or skipped,
-and the status is 1 where one failed. This needs Linux, which has the device /dev/full.
+the one that is named; one test runs crates/ck_threads/out/ck_threads. For each test a line is
+printed that begins with passed, FAILED or skipped, and the status is 1 where one failed. This needs
+Linux, which has the device /dev/full.
 """
 import hashlib
 import hmac
@@ -19,6 +20,8 @@ import time
 
 HERE = os.path.dirname(os.path.abspath(__file__))
 PROGRAM = os.path.join(HERE, "..", "crates", "ck_run", "out", "ck_run")
+# The folder of the program that is the example of docs/threads.md.
+SHARING = os.path.join(HERE, "..", "crates", "ck_threads")
 
 LONGEST_LINE = 4_194_304
 
@@ -673,20 +676,42 @@ def seldom_asleep(tests):
     tests.end("callers of short calls seldom sleep")
 
 
-def threads(tests):
+def without_threads():
+    """How a program is started that can make no thread. None where that can't be had."""
     most = resource.getrlimit(resource.RLIMIT_STACK)[1]
     if most != resource.RLIM_INFINITY and most < STACK_WITHOUT_ROOM:
+        return None
+    limits = (STACK_WITHOUT_ROOM, most)
+    return {"preexec_fn": lambda: resource.setrlimit(resource.RLIMIT_STACK, limits)}
+
+
+def threads(tests):
+    refused = without_threads()
+    if refused is None:
         print("skipped program: threads that can't be made, since stacks are limited for good",
               flush=True)
         return
-    limits = (STACK_WITHOUT_ROOM, most)
-    refused = {"preexec_fn": lambda: resource.setrlimit(resource.RLIMIT_STACK, limits)}
     for words in (["--callers", "1"], ["--callers", "8"]):
         for script in (FIRST_CALLS, b""):
             tests.check(words, script, b"", *NO_THREAD, **refused)
     tests.check(["--callers", "8"], b"1 Nope\n", b"", *bad_script(1, NO_CALL), **refused)
     tests.check([], FIRST_CALLS, FIRST_REPLIES, *PLAYED, **refused)
     tests.end("threads that can't be made")
+
+
+def threads_of_share(tests):
+    """Callers of `share` work one after the other where no thread can be made: the example of
+    threads.md, which ck_threads is, writes the same."""
+    refused = without_threads()
+    if refused is None:
+        print("skipped program: callers that have no threads, since stacks are limited for good",
+              flush=True)
+        return
+    with open(os.path.join(SHARING, "stdout"), "rb") as file:
+        wanted = (file.read(), *PLAYED)
+    made = Tests(os.path.join(SHARING, "out", "ck_threads")).run([], b"", **refused)
+    tests.expect(made == wanted, f"ck_threads: {made}, and not {wanted}")
+    tests.end("callers that work one after the other")
 
 
 def arguments(tests):
@@ -743,6 +768,7 @@ def main(program):
     side_by_side(tests)
     seldom_asleep(tests)
     threads(tests)
+    threads_of_share(tests)
     arguments(tests)
     readers(tests)
     writers(tests)

@@ -99,6 +99,10 @@ REPORTS = [
      b"t: line 2: limits 65 1 1 1: " + BAD_LIMITS + b"\nt: 2 passed, 1 bad\n", 1),
     (b"audit 65 1 1 1 -> legal\n",
      b"t: line 1: audit 65 1 1 1: " + BAD_LIMITS + b"\nt: 0 passed, 1 bad\n", 1),
+    # a reply without a call, and a file without lines
+    (b" -> 0\n",
+     b"t: line 1: : a line is a caller, a call and its arguments\nt: 0 passed, 1 bad\n", 1),
+    (b"", b"t: 0 passed\n", 0),
     # more lines than are named
     (b"1 Logout 1 -> 0\n1 Logout 1 -> 0\n1 Logout 1 -> 0\ncut -> legal\n",
      b"t: line 1: 1 Logout 1: got b3 CKR_SESSION_HANDLE_INVALID, expected 0 CKR_OK\n"
@@ -156,6 +160,26 @@ audit 1 9 9 9 -> entry 3 is wrong
 
 NO_CALL = b"t: line 6: foo: a line is a caller, a call and its arguments\n"
 
+# Two cases with limits of their own, and with those and the replies of a token that allows one
+# session.
+TWO_CASES = b"""\
+limits 2 9 9 9
+1 InitToken 31323334 -> 0
+
+limits 3 9 9 9
+1 GetTokenInfo -> 0 4 3 0 0
+"""
+TWO_CASES_OF_ONE = b"""\
+limits 1 9 8 7
+1 InitToken 31323334 -> 0
+
+limits 1 9 8 7
+1 GetTokenInfo -> 0 4 1 0 0
+"""
+
+# A line with bad limits, which stays as it is.
+BAD_LIMITS_LINE = b"limits 65 1 1 1\n1 GetTokenInfo"
+
 # A run without limits of its own, and with the replies of a token that allows one session.
 WITHOUT_LIMITS = b"""\
 # Two sessions.
@@ -208,6 +232,12 @@ LARGE_CASE_LINES = 66
 # The bytes of an address space that has room for these objects once. An audit makes them again.
 ROOM = 100_000_000
 
+# A call whose reply finds no room there, at both times that it is made: 200 million bytes.
+LARGE_REPLY = b"".join([
+    b"1 InitToken 31323334\n1 OpenSession 6\n",
+    b"1 CreateObject 1 0=0000000000000000,11=", b"61" * 1_000_000, b"\n",
+    b"1 GetAttributeValue 1 1 ", b",".join([b"11:1000000"] * 200), b"\n"])
+
 USAGE = b"\n\nUsage: ck_cases [OPTIONS] <FILE>..."
 MORE = b"\n\nFor more information, try '--help'.\n"
 
@@ -222,6 +252,10 @@ BAD_ARGUMENTS = [
      b"error: invalid value 'x' for '--most <N>': invalid digit found in string" + MORE),
     (["--nothing", "t"], b"error: unexpected argument '--nothing' found"
      b"\n\n  tip: to pass '--nothing' as a value, use '-- --nothing'" + USAGE + MORE),
+    (["--most", "1", "--most", "2", "t"],
+     b"error: the argument '--most <N>' cannot be used multiple times" + USAGE + MORE),
+    (["--limits", "largest", "--limits", "2,9,9,9", "t"],
+     b"error: the argument '--limits <LIMITS>' cannot be used multiple times" + USAGE + MORE),
     (["--limits", "65,1,1,1", "t"], BAD_OPTION),
     (["--limits", "2 3 4 5", "t"], BAD_OPTION),
     (["--limits", "1,2,3", "t"], BAD_OPTION),
@@ -284,6 +318,13 @@ def limits(tests):
     tests.check_file(AUDITED, ["--limits", "2,9,9,9", "t"], b"t: 4 passed\n", b"", 0)
     for text in (OTHER_OUTCOMES, OUTCOMES):
         tests.check_file(text, ["--replies", "t"], OUTCOMES, b"", 0)
+    # each case of a file has the other limits
+    tests.check_file(TWO_CASES, ["--limits", "1,9,8,7", "--replies", "t"], TWO_CASES_OF_ONE, b"", 0)
+    tests.check_file(TWO_CASES, ["--replies", "t"], TWO_CASES, b"", 0)
+    # bad limits stay as they are, where others aren't asked for
+    tests.check_file(BAD_LIMITS_LINE + b"\n", ["--replies", "t"],
+                     BAD_LIMITS_LINE + b" -> 0 4 64 0 0\n",
+                     b"t: line 1: limits 65 1 1 1: " + BAD_LIMITS + b"\n", 1)
     # a bad line of limits is told, and the others are in force behind it, too
     tests.check_file(b"limits 65 1 1 1\n1 GetTokenInfo -> 0 4 2 0 0\n",
                      ["--limits", "2,9,9,9", "t"],
@@ -306,6 +347,8 @@ def many_lines(tests):
     tests.check_file(TOO_MANY_LINES, ["t"], NAMED_LINES + b"t: 0 passed, 101 bad\n", b"", 1)
     tests.check_file(TOO_MANY_LINES, ["--replies", "t"], TOO_MANY_LINES, NAMED_LINES, 1)
     first, _, _ = NAMED_LINES.partition(b"t: line 2")
+    tests.check_file(TOO_MANY_LINES, ["--most", "0", "t"],
+                     b"t: only counted: 101 more\nt: 0 passed, 101 bad\n", b"", 1)
     errors = first + b"t: only counted: 100 more\n"
     tests.check_file(TOO_MANY_LINES, ["--most", "1", "--replies", "t"], TOO_MANY_LINES, errors, 1)
     tests.end("of 101 bad lines 100 are named")
@@ -355,6 +398,7 @@ def audits(tests):
     tests.check_file(LARGE_CASE, ["--replies", "t"], b"", b"t: out of memory\n", 1, **short)
     cut = LARGE_CASE + b"cut -> a session is open\n1 CloseAllSessions -> 0\n"
     tests.check_file(cut, ["t"], b"t: out of memory\n", b"", 1, **short)
+    tests.check_file(LARGE_REPLY, ["t"], b"t: out of memory a second time\n", b"", 1, **short)
     tests.end("cases are audited at their end and before a cut, and find no memory for it")
 
 
@@ -374,6 +418,8 @@ def bad_files(tests):
         for words in (["none", "t"], ["t", "none"]):
             tests.check_file(text, words, report, b"ck_cases: none: No such file or directory"
                              b" (os error 2)\n", 2)
+    # a folder
+    tests.check_file(b"", ["."], b"", b"ck_cases: .: Is a directory (os error 21)\n", 2)
     tests.end("files that aren't read")
 
 

@@ -1,6 +1,7 @@
 #!/usr/bin/env python3
-"""Looks whether `rt ci` refused each edit that must fail at the clause that the line `clause:` of
-the edit names, and not for another reason.
+"""Checks that `rt ci` refused each edit that must fail at the clause that the line `clause:` of
+the edit names, and not for another reason; and that it ran each program as two compilers build
+it, and the tests of ck_run.
 
 Called with a file that has the output of `rt ci`. The place is to be in the function that is named,
 or in its file of proofs, and the goal there may be of the clause: one that ends with the name of
@@ -9,7 +10,8 @@ invariant of a type, except where the edit names the type. Where the clause is o
 show, the edit may be refused at a call, where that clause isn't shown and not another one. An edit
 of a definition is to be refused in a proof of the law that it names, or in a lemma that this proof
 comes to by its `use` lines. Edits that are refused elsewhere though they break their clauses are
-listed with reasons. Prints each edit that has no such verdict; the status is 1 then.
+listed with reasons. Prints each edit that has no such verdict, and each program that wasn't run;
+the status is 1 then.
 """
 import functools
 import glob
@@ -181,13 +183,27 @@ def faults_in(output):
         yield f"{name} is listed, and isn't there"
 
 
+def programs_not_run(output):
+    """The programs that weren't run as both compilers build them. `rt ci` passes where its own
+    compiler can't compile one, and only says so."""
+    said = set(output.split("\n"))
+    for path in inventory.files("crates/*/src/main.rt"):
+        name = path.split("/")[1]
+        for builder in ("", " (built by Rattle's own compiler)"):
+            if f"rt: {name} ran{builder}, and wrote what its file stdout has" not in said:
+                yield f"{name} wasn't run{builder}"
+    if "rt: ck_run: its tests passed" not in said:
+        yield "the tests of ck_run weren't run"
+
+
 def main(path):
     with open(path, encoding="utf-8", errors="replace") as file:
-        faults = list(faults_in(file.read()))
-    for fault in faults:
+        output = file.read()
+    faults, not_run = list(faults_in(output)), list(programs_not_run(output))
+    for fault in faults + not_run:
         print(fault)
     print(f"{len(faults)} edits aren't refused at their clauses")
-    return 1 if faults else 0
+    return 1 if faults or not_run else 0
 
 
 if __name__ == "__main__":

@@ -10,16 +10,18 @@ The replies that are wanted are read off the pages. So that no row is passed ove
 have as many rows as are said here, and attributes and states that it doesn't have must be refused.
 Last, what pages say is compared with what the sources and other tests have: the checks of each
 call, return codes, reasons of bad lines, statuses, names and functions for programs, functions
-without clauses, names of laws, races, and numbers. The program is crates/ck_run/out/ck_run, which
-`rt ci` leaves, or the one that is named; cases of limits, and the ends that docs/recorded_runs.md
-says, are played by crates/ck_cases/out/ck_cases. For each test a line is printed that begins with
-passed or FAILED, and the status is 1 where one failed.
+without clauses, names of laws, races, numbers, links and the toolchain. The program is
+crates/ck_run/out/ck_run, which `rt ci` leaves, or the one that is named; cases of limits, and the
+ends that docs/recorded_runs.md says, are played by crates/ck_cases/out/ck_cases. For each test a
+line is printed that begins with passed or FAILED, and the status is 1 where one failed.
 """
 import glob
 import hashlib
 import itertools
 import os
 import re
+import shutil
+import subprocess
 import sys
 import tempfile
 
@@ -333,8 +335,14 @@ NUMBERS_ON_PAGES = [
     ("architecture.md", r"the lock at least (\S+) times", "ck_races/src/free_locks.rt",
      "LEAST_LOCKS"),
     ("architecture.md", r"ten messages of (\S+) bytes", "ck_races/src/behind_calls.rt", "LENGTH"),
-    ("architecture.md", r"on a token that isn't shared, in one of (\w+) tries",
+    ("architecture.md", r"In at least one of (\w+) tries all of this takes less",
      "ck_races/src/behind_calls.rt", "TRIES"),
+    ("architecture.md", r"taken in before (\w+) calls of another caller",
+     "ck_races/src/behind_calls.rt", "CALLS_BETWEEN"),
+    ("recorded_runs.md", r"Of a long text the first (\w+) characters are shown",
+     "ck_cases/src/shown.rt", "MOST_SHOWN"),
+    ("recorded_runs.md", r"At most (\w+) lines of a file are named", "../tests/recorded_runs.py",
+     "MOST_NAMED"),
     ("rules.md", r"A PIN that is set has (\w+) to 64 bytes", "ck_types/src/pins.rt",
      "SHORTEST_PIN"),
     ("rules.md", r"A PIN that is set has 4 to (\w+) bytes", "ck_types/src/pins.rt", "LONGEST_PIN"),
@@ -1485,6 +1493,38 @@ def lines_of_answers(tests):
     tests.end("lines on which answers rest")
 
 
+def names_of_headings(page):
+    """The names by which links lead to the headings of a page."""
+    headings = re.findall(r"^#+ (.*)$", page, re.MULTILINE)
+    return {re.sub(r"[^\w -]", "", heading.lower()).replace(" ", "-") for heading in headings}
+
+
+def links(tests):
+    """Each link leads to a file that is there, and to a heading of it."""
+    count = 0
+    for path in [*glob.glob(os.path.join(DOCS, "*.md")), os.path.join(DOCS, "..", "README.md")]:
+        for to, heading in re.findall(r"\]\(([^)#\s]*)#?([^)\s]*)\)", read(path)):
+            page = os.path.join(os.path.dirname(path), to) if to else path
+            is_there = os.path.exists(page) and (
+                not heading or heading in names_of_headings(read(page)))
+            tests.expect(is_there, f"{path} has a link to {to}#{heading}")
+            count += 1
+    tests.expect(count > 100, f"{count} links")
+    tests.end("links of pages")
+
+
+def toolchain(tests):
+    """README.md names the toolchain by what `rt version` prints of it."""
+    if shutil.which("rt") is None:
+        print("skipped rules: the toolchain that README.md names, since rt isn't there", flush=True)
+        return
+    said = subprocess.run(["rt", "version"], capture_output=True, text=True).stdout.split()
+    page = read(DOCS, "..", "README.md")
+    tests.expect(len(said) == 3 and f"`{said[0]}`" in page
+                 and f"`{' '.join(said[1:])}`" in " ".join(page.split()), f"rt version: {said}")
+    tests.end("the toolchain that README.md names")
+
+
 def main(path):
     tests = program.Tests(path, "rules")
     attributes(tests)
@@ -1521,6 +1561,8 @@ def main(path):
     functions_of_module(tests)
     clients_of_module(tests)
     lines_of_answers(tests)
+    links(tests)
+    toolchain(tests)
     return tests.status()
 
 

@@ -34,9 +34,15 @@ LEAST_GROWTH, MOST_GROWTH = 2, 8
 LONG_FRONT, LONG_END = "61" * 14, "62" * 14
 
 
+def refused_of(calls):
+    """How many of these calls may be refused: some of other_calls, and digests without room."""
+    return sum(call in REFUSED_CALLS or call.endswith(" 31") for call in calls)
+
+
 def seconds_of(tests, calls, words=()):
-    """The processor time in which the program plays these calls. The system's part is taken with
-    it: of short runs the system only guesses which part is its own."""
+    """The processor time in which the program plays these calls, of which no others are refused
+    than must be. The system's part is taken with it: of short runs the system only guesses which
+    part is its own."""
     script = "".join(line + "\n" for line in FIRST_CALLS + calls).encode()
     before = program.seconds_of_programs()
     ended = subprocess.run([tests.program, *words], input=script, stdout=subprocess.PIPE,
@@ -46,6 +52,10 @@ def seconds_of(tests, calls, words=()):
     wanted = 2 if words else len(FIRST_CALLS) + len(calls)
     tests.expect((ended.returncode, replies) == (0, wanted),
                  f"status {ended.returncode}, {replies} replies")
+    if not words:
+        answered = sum(reply.split(b" ")[0] == b"0" for reply in ended.stdout.splitlines())
+        least = wanted - refused_of(calls)
+        tests.expect(answered >= least, f"{answered} calls are CKR_OK, and not {least}")
     return seconds
 
 
@@ -96,11 +106,15 @@ def generations(count):
             for number in range(count)]
 
 
+# Calls that log the user in.
+LOGIN = ["1 Login 1 0 31323334", "1 InitPIN 1 75736572", "1 Logout 1", "1 Login 1 1 75736572"]
+
+
 def private_objects(count, is_of_token="01"):
     """Calls that create private objects, with the user logged in, and log the user out. Those that
     aren't token objects end then."""
-    return ["1 Login 1 0 31323334", "1 InitPIN 1 75736572", "1 Logout 1", "1 Login 1 1 75736572",
-            *[f"1 CreateObject 1 0=0000000000000000,1={is_of_token},2=01"] * count, "1 Logout 1"]
+    return [*LOGIN, *[f"1 CreateObject 1 0=0000000000000000,1={is_of_token},2=01"] * count,
+            "1 Logout 1"]
 
 
 def single_results(count):
@@ -126,17 +140,19 @@ def turnover(count):
         creation, creation, f"1 DestroyObject 1 {number}", f"1 DestroyObject 1 {number + 1}")]
 
 
-def keys(count):
-    """Calls that create public keys, each with a label and an identifier of its own."""
-    return [f"1 CreateObject 1 0=0400000000000000,100=1000000000000000,11=00,2=00,"
+def keys(count, placement="2=00"):
+    """Calls that create keys, public ones if nothing else is said, each with a label and an
+    identifier of its own."""
+    return [f"1 CreateObject 1 0=0400000000000000,100=1000000000000000,11=00,{placement},"
             f"3={number:08x},102={number:08x}" for number in range(count)]
 
 
-def sessions(count, objects=0, closing="CloseSession {}"):
-    """Calls that open sessions, one after the other, create this many session objects in each, and
-    close it by this call."""
+def sessions(count, objects=0, closing="CloseSession {}", opening=(), kind="2=00"):
+    """Calls that open sessions, one after the other, make these calls in each, create this many
+    session objects in it, and close it by this call."""
     return [line for number in range(count) for line in (
-        "1 OpenSession 6", *[f"1 CreateObject {number + 2} 0=0000000000000000"] * objects,
+        "1 OpenSession 6", *(call.format(number + 2) for call in opening),
+        *[f"1 CreateObject {number + 2} 0=0000000000000000,{kind}"] * objects,
         "1 " + closing.format(number + 2))]
 
 
@@ -184,6 +200,13 @@ ROUND = """\
 """.split("\n")[:-1]
 
 
+# Those of them that are refused, with some that other scripts have.
+REFUSED_CALLS = {
+    "1 VerifyFinal 1 61", "1 Verify 1 61 61", "1 SignUpdate 1 61", "1 DestroyObject 1 4096",
+    "1 CreateObject 1 -", "1 CloseSession 2", "1 FindObjectsInit 1 3=00",
+    "1 GetAttributeValue 1 1 11:?,11:5"}
+
+
 def other_calls(count):
     """These calls, one time for each ten of the number, on a key that is active."""
     key = "1 CreateObject 1 0=0400000000000000,100=1000000000000000,11=00,2=00,108=01,10a=01"
@@ -226,7 +249,8 @@ def is_faster_by_label(before, with_labels, with_others):
 
 def label_searches(tests):
     """A search by a label passes over most objects without reading them, where labels are long or
-    were given anew, where the template begins with another attribute, among keys, and among many.
+    were given anew, where the template begins with another attribute, among keys, also private ones
+    of a user who is logged in, and among many.
     Each row has calls, the searches behind them by a label, and as many others."""
     made, most = creations(FEW), creations(MOST)
     by_label, by_other = searches(SEARCHES, "3="), searches(SEARCHES, "10=")
@@ -236,6 +260,7 @@ def label_searches(tests):
             (made, searches(SEARCHES, "0=0000000000000000,3="), by_other),
             (made + changes(FEW), by_label, by_other),
             (keys(FEW), by_label, searches(SEARCHES, "102=")),
+            ([*LOGIN, *keys(FEW, "1=01,2=01")], by_label, searches(SEARCHES, "102=")),
             (most, searches(SEARCHES_OF_MOST, "3="), searches(SEARCHES_OF_MOST, "10="))):
         times = least_seconds(tests, (first, first + labels, first + others), is_faster_by_label)
         tests.expect(is_faster_by_label(*times),
@@ -255,6 +280,13 @@ EVEN = [
     ("sessions with two objects each, one after the other", lambda count: sessions(count, 2)),
     ("sessions that are all closed, with two objects",
      lambda count: sessions(count, 2, "CloseAllSessions")),
+    ("sessions with a private object each, one after the other",
+     lambda count: LOGIN + sessions(count, 1, kind="2=01")),
+    ("sessions that are all closed, with a private object", lambda count: [
+        *LOGIN, "1 Logout 1",
+        *sessions(count, 1, "CloseAllSessions", ["1 Login {} 1 75736572"], "2=01")]),
+    ("sessions beside private objects of another",
+     lambda count: private_objects(count, "00")[:-1] + sessions(count)),
     ("sessions beside objects of another", lambda count: creations(count) + sessions(count)),
     ("logins beside objects", lambda count: creations(count) + logins(count)),
     ("logins beside private objects",

@@ -129,14 +129,27 @@ def check_recording(checks, module, ck_cases, folder):
     support.audit(checks, ck_cases, os.path.join(folder, "run.cases"))
 
 
+def check_last_line(checks, folder):
+    """The command that takes out a last line without its end, and no other line."""
+    page = "docs/recorded_runs.md"
+    command = re.search(r"before the file is played: `([^`]*)`", " ".join(text_of(page).split()))
+    path = os.path.join(folder, "some.cases")
+    for text, left in (("a\n", "a\n"), ("a\nb", "a\n"), ("a\nb\n", "a\nb\n")):
+        with open(path, "w") as file:
+            file.write(text)
+        run(command[1] if command else "false", folder)
+        with open(path) as file:
+            checks.equal(file.read(), left, f"{page}: the last line of {text!r}")
+
+
 def check_recorded_run(checks, ck_cases, folder):
     """The file of the page on recorded runs, and what ck_cases writes of it."""
     page = "docs/recorded_runs.md"
     with open(os.path.join(folder, "some.cases"), "w") as file:
         file.write("\n".join(block_with(page, "limits largest")) + "\n")
-    for block in blocks_of(page):
-        if not any(line.startswith("$ ck_cases") for line in block):
-            continue
+    played = [it for it in blocks_of(page) if any(line.startswith("$ ck_cases") for line in it)]
+    checks.equal(len(played), text_of(page).count("$ ck_cases --") + 1, f"{page}: its blocks")
+    for block in played:
         said = "".join(run(line[2:].replace("ck_cases", ck_cases, 1), folder).stdout
                        for line in block if line.startswith("$ "))
         shown = "".join(line + "\n" for line in block if not line.startswith("$ "))
@@ -227,7 +240,7 @@ def check_tables(checks, ck_cases, folder):
     text = "".join("limits largest\n" * (" InitToken " in line) + line + "\n" for line in lines)
     with open(os.path.join(folder, "script.cases"), "w") as file:
         file.write(text)
-    checks.check(len(lines) > 8, f"{SCRIPT_PAGE}: the tables are there")
+    checks.check(len(lines) > 30, f"{SCRIPT_PAGE}: the tables are there")
     checks.equal(run(f"{ck_cases} script.cases", folder).stdout,
                  f"script.cases: {len(lines)} passed\n", f"{SCRIPT_PAGE}: the tables")
     checks.check(stand_in_order(lines, text_of("crates/ck_cases/data/readme.cases")),
@@ -297,8 +310,9 @@ def main():
     module, ck_cases = (os.path.abspath(path) for path in sys.argv[1:3])
     checks = support.Checks("documents")
     with tempfile.TemporaryDirectory() as folder:
+        check_last_line(checks, folder)
         check_recorded_run(checks, ck_cases, folder)
-    checks.end("the file of docs/recorded_runs.md")
+    checks.end("the file of docs/recorded_runs.md, and the command before it is played")
     check_sources(checks)
     check_scripts(checks, ck_cases)
     if shutil.which("pkcs11-tool") is None:

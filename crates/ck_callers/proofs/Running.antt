@@ -4,7 +4,7 @@ use Rattle.std.specs.List.{AllZip}
 use Rattle.std.specs.Prelude.{MatchBool, vec_items}
 use Rattle.ck_types.specs.TokenLimits.{Ranges}
 use Rattle.ck_journal.specs.declared.calls.Call.{Call}
-use Rattle.ck_journal.specs.declared.replies.Reply.{Reply}
+use Rattle.ck_journal.specs.declared.answers.Reply.{Reply}
 use Rattle.ck_callers.specs.Callers.{HasCalled}
 use Rattle.ck_callers.specs.Runs.{HasRun, AreMade, AreStepsTaken}
 use Rattle.ck_callers.specs.Steps.{HasStepped, IsCall}
@@ -31,17 +31,17 @@ module _ {K : Type 0} (limits : Ranges) where
       new
       → AreMade old new
   script_made old new = match_weaker _ _ _ new.started (λ made. (
-    made_calls limits old.caller (vec_items old.steps) (vec_items new.replies) new.outcome
+    made_calls limits old.caller (vec_items old.steps) (vec_items new.answers) new.outcome
         new.caller made.0,
     made.1,
-    knows_last limits old.caller (vec_items old.steps) (vec_items new.replies) new.outcome
+    knows_last limits old.caller (vec_items old.steps) (vec_items new.answers) new.outcome
         new.caller made.0,
   ))
 
   script_taken : (old new : Script K Step Answered) → HasRun (HasStepped limits) IsCall old new
       → AreStepsTaken limits old new
   script_taken old new = match_weaker _ _ _ new.started (λ made. (
-    taken limits old.caller (vec_items old.steps) (vec_items new.replies) new.outcome new.caller
+    taken limits old.caller (vec_items old.steps) (vec_items new.answers) new.outcome new.caller
         made.0,
     made.1,
   ))

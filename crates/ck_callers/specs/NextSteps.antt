@@ -10,10 +10,10 @@ EndsAt MayFail left (Ok done) = left ≡ []
 EndsAt MayFail [] (Err none) = ⊥
 EndsAt MayFail (s ∷ left) (Err none) = MayFail s
 
--- the caller has done each of these that has a reply, one after the other
+-- the caller has done each of these that has an answer, one after the other
 abbrev pub HasMade : {S A : Type 0} → (CallerState → S → A → CallerState → Type 0) → (S → Type 0)
     → CallerState → List S → List A → Result (Unit {0}) NoMemory → CallerState → Type 0
 HasMade Does MayFail old steps [] outcome new = (new ≡ old) × EndsAt MayFail steps outcome
-HasMade Does MayFail old [] (a ∷ replies) outcome new = ⊥
-HasMade Does MayFail old (s ∷ steps) (a ∷ replies) outcome new =
-    (now : CallerState) × Does old s a now × HasMade Does MayFail now steps replies outcome new
+HasMade Does MayFail old [] (a ∷ answers) outcome new = ⊥
+HasMade Does MayFail old (s ∷ steps) (a ∷ answers) outcome new =
+    (now : CallerState) × Does old s a now × HasMade Does MayFail now steps answers outcome new

@@ -47,14 +47,44 @@ impl<K: TokenId> Model for Caller<K> {
         × (call_count c.account.number c.last ≡ c.account.count) };
 }
 
+/// What the published copy of the board answers, and the history that the answer is of. It is no
+/// shorter than what the caller knows and has all entries of the caller. `None` where the copy
+/// can't be read, where it lacks an entry that may have changed the board and that the caller
+/// knows, or where the history has another count of the caller's calls.
+fn look<K: TokenId>(
+    reader: &mut ReadHandle<BoardCopy<K>>,
+    account: &Account<K>,
+    known: &KnownHistory<K>,
+    ask: Ask,
+) -> Option<(Status, KnownHistory<K>)>
+    ensures front { IfSome result (λ found. IsFront known.now.history found.1.history) }
+    ensures count { IfSome result (λ found.
+        call_count account.now.number found.1.history ≡ account.now.count) }
+    ensures legal { IfSome result (λ found. IsLegal K.limits found.1.history) }
+    ensures answer { IfSome result (λ found.
+        reply_of_status found.0 ≡ answer K.limits found.1.history (call_of_ask ask)) }
+{
+    let board = reader.enter()?;
+    let longer = known.longer(board.known())?;
+    // The counts are the same, since only this caller makes its calls. No contract says so, so they
+    // are compared.
+    if longer.calls(account.number()) != account.count() {
+        return None;
+    }
+    // Tells the prover that the history is legal.
+    let _entries = longer.front().len();
+    Some((status_on(board.board(), ask), longer.duplicate()))
+}
+
 impl<K: TokenId> Caller<K> {
-    ghost use Rattle.std.specs.Prelude.{◌≡◌, ◌⊎◌};
+    ghost use Rattle.std.specs.Prelude.{◌≡◌, ◌⊎◌, IfNone, IfSome, OnSome};
     ghost use Rattle.ck_journal.specs.Fronts.{IsFront};
-    ghost use Rattle.ck_journal.specs.Answers.{IsLegal};
-    ghost use Rattle.ck_journal.specs.Callers.{call_counts};
+    ghost use Rattle.ck_journal.specs.Answers.{IsLegal, answer};
+    ghost use Rattle.ck_journal.specs.Callers.{call_counts, entries_by};
     ghost use Rattle.ck_journal.specs.Histories.{History, start, entry_count};
     ghost use Rattle.ck_journal.specs.declared.calls.Call.{Call};
     ghost use Rattle.ck_journal.specs.declared.replies.Reply.{Reply};
+    ghost use Rattle.ck_callers.specs.Asks.{call_of_ask, reply_of_status};
     ghost use Rattle.ck_callers.specs.Callers.{HasCalled, IsNextCall, IsSettled, new_caller};
 
     /// A caller that has made no call.
@@ -89,7 +119,7 @@ impl<K: TokenId> Caller<K> {
         self.account.count()
     }
 
-    /// How many entries the longest history has that it knows.
+    /// How many entries are in the longest history that it knows.
     pub fn seen(&self) -> u64
         ensures length { result ≡ entry_count self.now.seen }
         ensures legal { IsLegal K.limits self.now.seen }
@@ -133,6 +163,25 @@ impl<K: TokenId> Caller<K> {
         }
     }
 
+    /// Answers a question as the token would have answered it after all calls that the caller knows
+    /// of afterwards. It takes neither the lock nor memory and waits for nobody. `None` where the
+    /// board can't be read, lacks an entry that the caller knows and that may have changed it, or
+    /// has another count of the caller's calls. (No contract says that the last can't be.)
+    pub fn status(&mut self, ask: Ask) -> Option<Status>
+        ensures answer { IfSome result (λ status.
+            reply_of_status status ≡ answer K.limits self.new.seen (call_of_ask ask)) }
+        ensures legal { OnSome result (IsLegal K.limits self.new.seen) }
+        ensures own { OnSome result (entries_by self.new.number self.new.seen
+            ≡ entries_by self.new.number self.new.last) }
+        ensures front { IsFront self.old.seen self.new.seen }
+        ensures same { self.new ≡ record self.old { seen = self.new.seen } }
+        ensures unchanged { IfNone result (self.new ≡ self.old) }
+    {
+        let (status, known) = look(&mut self.reader, &self.account, &self.known, ask)?;
+        self.known = known;
+        Some(status)
+    }
+
     /// Notes an answered call of the caller: the books count the call, and the caller knows the
     /// history that ends with the call's entry.
     pub fn follow(&mut self, books: &mut CallBooks<K>, known: &KnownHistory<K>)
@@ -162,62 +211,6 @@ impl<K: TokenId> Caller<K> {
         ensures caller { self.new ≡ self.old }
     {
         books.show_count(&mut self.account);
-    }
-}
-
-/// What the published copy of the board answers, and the history that the answer is of. It is no
-/// shorter than what the caller knows and has all entries of the caller. `None` where the copy
-/// can't be read, where it lacks an entry that may have changed the board and that the caller
-/// knows, or where the history has another count of the caller's calls.
-fn look<K: TokenId>(
-    reader: &mut ReadHandle<BoardCopy<K>>,
-    account: &Account<K>,
-    known: &KnownHistory<K>,
-    ask: Ask,
-) -> Option<(Status, KnownHistory<K>)>
-    ensures front { IfSome result (λ found. IsFront known.now.history found.1.history) }
-    ensures count { IfSome result (λ found.
-        call_count account.now.number found.1.history ≡ account.now.count) }
-    ensures legal { IfSome result (λ found. IsLegal K.limits found.1.history) }
-    ensures answer { IfSome result (λ found.
-        reply_of_status found.0 ≡ answer K.limits found.1.history (call_of_ask ask)) }
-{
-    let board = reader.enter()?;
-    let longer = known.longer(board.known())?;
-    // The counts are the same, since only this caller makes its calls. No contract says so, so they
-    // are compared.
-    if longer.calls(account.number()) != account.count() {
-        return None;
-    }
-    // Tells the prover that the history is legal.
-    let _entries = longer.front().len();
-    Some((status_on(board.board(), ask), longer.duplicate()))
-}
-
-impl<K: TokenId> Caller<K> {
-    ghost use Rattle.std.specs.Prelude.{◌≡◌, IfNone, IfSome, OnSome};
-    ghost use Rattle.ck_journal.specs.Answers.{IsLegal, answer};
-    ghost use Rattle.ck_journal.specs.Callers.{entries_by};
-    ghost use Rattle.ck_journal.specs.Fronts.{IsFront};
-    ghost use Rattle.ck_callers.specs.Asks.{call_of_ask, reply_of_status};
-
-    /// Answers a question as the token would have answered it after all calls that the caller knows
-    /// of afterwards. It takes neither the lock nor memory and waits for nobody. `None` where the
-    /// board can't be read, lacks an entry that the caller knows and that may have changed it, or
-    /// has another count of the caller's calls. (No contract says that the last can't be.)
-    pub fn status(&mut self, ask: Ask) -> Option<Status>
-        ensures answer { IfSome result (λ status.
-            reply_of_status status ≡ answer K.limits self.new.seen (call_of_ask ask)) }
-        ensures legal { OnSome result (IsLegal K.limits self.new.seen) }
-        ensures own { OnSome result (entries_by self.new.number self.new.seen
-            ≡ entries_by self.new.number self.new.last) }
-        ensures front { IsFront self.old.seen self.new.seen }
-        ensures same { self.new ≡ record self.old { seen = self.new.seen } }
-        ensures unchanged { IfNone result (self.new ≡ self.old) }
-    {
-        let (status, known) = look(&mut self.reader, &self.account, &self.known, ask)?;
-        self.known = known;
-        Some(status)
     }
 }
 

@@ -19,8 +19,8 @@ impl TokenId for Brand {
     ghost callers = { 1 };
 }
 
-/// A history without entries and ledgers without calls. `open` and `adopt` take them, and a type
-/// then stands for both.
+/// A history without entries and ledgers without calls. `SharedToken::open` and
+/// `SharedToken::adopt` of ck_shared take them, and a type then stands for both.
 pub struct NewIdentity {
     pub history: NewHistory,
     pub ledgers: NewLedgers,

@@ -19,8 +19,8 @@ const CALLERS: usize = MOST_CALLERS as usize;
 pub struct KnownHistory<K: TokenId> {
     front: Front<K>,
     changed: Front<K>,
-    /// Read only in `look`, by a comparison that tells the prover that the history has no other
-    /// entries of the caller.
+    /// How many calls of each caller the history has, those of caller 1 first. Read only in `look`,
+    /// by a comparison that tells the prover that the history has no other entries of the caller.
     calls: [u64; CALLERS],
 }
 

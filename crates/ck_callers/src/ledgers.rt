@@ -124,8 +124,8 @@ fn open_ledger<L: Ledger>(blank: Blank) -> (Book<L>, Share<L>)
     blank.open::<L>()
 }
 
-/// Adds the account of the caller that has this part of its ledger, where it is one of `most`.
-/// There must be room for it.
+/// Adds the account of the caller that has this part of its ledger, where the caller's number is at
+/// most `most`. There must be room for it.
 fn add_account<K: TokenId>(
     accounts: &mut Vec<Account<K>>,
     most: u32,

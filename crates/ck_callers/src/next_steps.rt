@@ -9,6 +9,7 @@ use std::sync::Wait;
 
 /// What a caller does next at a gate. A `Call` is made; a `Step` is a call or a question. `A` is
 /// the type of what is answered.
+// A parameter and no associated type, since `Script`, which is public, names it without this trait.
 pub(crate) trait NextStep<K: TokenId, A: Drop>: Drop {
     ghost use Rattle.ck_callers.specs.Callers.{CallerState};
 

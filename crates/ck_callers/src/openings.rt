@@ -19,8 +19,8 @@ use left_right::{Absorb, WriteHandle};
 use std::alloc::Global;
 use std::sync::Wait;
 
-/// What is made of a token that is shared, before the first call: what lies beside it under its
-/// lock, what answers without the lock, and its callers.
+/// What is made when a token is shared, before its first call: what lies beside the token under its
+/// lock, and the callers.
 #[derive(Drop)]
 pub struct Opened<K: TokenId, R: Wait + Drop>
 // `impl Absorb for BoardCopy` gives this bound. The prover wants it repeated, since a field's type

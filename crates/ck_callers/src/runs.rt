@@ -47,9 +47,9 @@ fn run_started<K: TokenId, S: NextStep<K, A>, A: Drop, G: Gate<K>, W: Wait>(
     gate: &G,
     script: &mut Script<K, S, A>,
 )
-    requires { vec_items script.old.replies ≡ [] }
+    requires { vec_items script.old.answers ≡ [] }
     ensures made { HasMade S.does S.may_fail script.old.caller (vec_items script.old.steps)
-        (vec_items script.new.replies) script.new.outcome script.new.caller }
+        (vec_items script.new.answers) script.new.outcome script.new.caller }
     ensures steps { vec_items script.new.steps ≡ [] }
     ensures started { script.new.started ≡ script.old.started }
 {
@@ -60,11 +60,11 @@ fn run_started<K: TokenId, S: NextStep<K, A>, A: Drop, G: Gate<K>, W: Wait>(
         gate,
         &mut script.caller,
         steps,
-        &mut script.replies,
+        &mut script.answers,
     );
 }
 
-/// Runs a script where it has a thread. Else it stays as it is, without replies.
+/// Runs a script where it has a thread. Else it stays as it is, without answers.
 fn run_script<K: TokenId, S: NextStep<K, A>, A: Drop, G: Gate<K>, W: Wait>(
     rt: &W,
     alloc: Global,
@@ -74,7 +74,7 @@ fn run_script<K: TokenId, S: NextStep<K, A>, A: Drop, G: Gate<K>, W: Wait>(
 ) -> Script<K, S, A>
     ensures { HasRun S.does S.may_fail script result }
 {
-    script.replies.clear();
+    script.answers.clear();
     script.started = has_thread.load(Ordering::SeqCst);
     if script.started {
         run_started(rt, alloc, gate, &mut script);

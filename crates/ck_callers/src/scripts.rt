@@ -13,10 +13,10 @@ use std::alloc::Global;
 pub struct Script<K: TokenId, S: Drop = Call, A: Drop = Reply> {
     pub caller: Caller<K>,
     pub(crate) steps: Vec<S>,
-    pub(crate) replies: Vec<A>,
+    pub(crate) answers: Vec<A>,
     pub(crate) outcome: Result<(), NoMemory>,
     pub(crate) started: bool,
-    pub ghost room: { vec_len steps ≤ vec_capacity replies },
+    pub ghost room: { vec_len steps ≤ vec_capacity answers },
 }
 
 impl<K: TokenId, S: Drop, A: Drop> Script<K, S, A> {
@@ -31,16 +31,16 @@ impl<K: TokenId, S: Drop, A: Drop> Script<K, S, A> {
     ) -> Result<Script<K, S, A>, (Caller<K>, Vec<S>)>
         ensures caller { IfOk result (λ script. script.caller ≡ caller) }
         ensures steps { IfOk result (λ script. script.steps ≡ steps) }
-        ensures replies { IfOk result (λ script. script.replies.items ≡ []) }
+        ensures answers { IfOk result (λ script. script.answers.items ≡ []) }
         ensures outcome { IfOk result (λ script. script.outcome ≡ Ok tt) }
         ensures started { IfOk result (λ script. script.started ≡ false) }
         ensures back { IfErr result (λ refused. refused ≡ (caller, steps)) }
     {
         match Vec::with_capacity(alloc, steps.len()) {
-            Ok(replies) => Ok(Script {
+            Ok(answers) => Ok(Script {
                 caller,
                 steps,
-                replies,
+                answers,
                 outcome: Ok(()),
                 started: false,
             }),
@@ -58,17 +58,17 @@ impl<K: TokenId, S: Drop, A: Drop> Script<K, S, A> {
 
     /// The answers to the steps that were taken when the script was run, in their order: replies,
     /// where the steps are calls.
-    pub fn replies(&self) -> &[A]
-        ensures { result.now ≡ self.now.replies.items }
+    pub fn answers(&self) -> &[A]
+        ensures { result.now ≡ self.now.answers.items }
     {
-        &self.replies
+        &self.answers
     }
 
     /// The caller, and the answers to its steps.
     pub fn into_parts(self) -> (Caller<K>, Vec<A>)
-        ensures { result ≡ (self.caller, self.replies) }
+        ensures { result ≡ (self.caller, self.answers) }
     {
-        (self.caller, self.replies)
+        (self.caller, self.answers)
     }
 
     /// How the run ended. `Err`: the step after those that were answered is a call that found no

@@ -10,8 +10,8 @@ use std::alloc::Global;
 use std::sync::{Arc, Mutex};
 
 /// A slot for the board after a call. It is made before the call is answered, and filled
-/// afterwards. It has two handles: one is appended to the board's operations. Only the thread that
-/// holds the token's lock uses them, so nobody waits for the slot's own lock.
+/// afterwards. It has two handles, of which the board's writer gets one. Only the thread that holds
+/// the token's lock uses them, so nobody waits for the slot's own lock.
 #[derive(Drop)]
 pub struct BoardSlot<K: TokenId> {
     pub(crate) content: Arc<Mutex<Option<BoardCopy<K>>>>,
@@ -25,9 +25,9 @@ impl<K: TokenId> BoardSlot<K> {
         Ok((BoardSlot { content }, BoardSlot { content: other }))
     }
 
-    /// Fills the slot with the board after a call and the history that it is of, without memory.
-    /// The precondition says that the board is of this history, and the type of what the slot holds
-    /// keeps that. No clause can say that it then lies there.
+    /// Fills the slot with the board after a call and the history that it is of. It takes no
+    /// memory. The precondition says that the board is of this history, and the type of what the
+    /// slot holds keeps that. No clause can say that the slot has the board afterwards.
     pub fn fill(&self, board: TokenBoard, known: &KnownHistory<K>)
         requires { board ≡ board_of K.limits known.now.history }
     {

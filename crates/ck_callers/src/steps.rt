@@ -15,8 +15,8 @@ pub enum Step {
     Ask(Ask),
 }
 
-/// What is answered to a step. `seen` is how many entries the history has that the caller then
-/// knows.
+/// What is answered to a step. `seen` is how many entries are in the history that the caller knows
+/// then.
 #[derive(Drop)]
 pub enum Answered {
     Reply { reply: Reply, seen: u64 },

@@ -1,7 +1,7 @@
 //! Plays files of recorded calls, compares the replies that come with those that are recorded, and
-//! audits the journals. A line is written for each line that differs or is bad, and one that counts
-//! the lines of the file. A call, a cut or an audit that finds no memory is made again, and the
-//! count says how many times.
+//! audits the journals. A line is written for each of the first lines that differ or are bad, and
+//! one that counts the lines of the file. A call, a cut or an audit that finds no memory is made
+//! again, and the count says how many times.
 #![tactic(auto)]
 
 mod arguments;

@@ -27,7 +27,8 @@ pub struct Operation {
 }
 
 impl Operation {
-    /// An operation before its first update. The entry after the first `entries` ones starts it.
+    /// An operation before its first update. `entries` is how many entries the journal has before
+    /// the one that starts it.
     pub(crate) fn new(
         kind: OperationKind,
         session: u64,
@@ -131,8 +132,9 @@ impl Operation {
         }
     }
 
-    /// Adds a piece to its message, by the entry after the first `entries` ones. `ready`, where it
-    /// is given, is the running tag that has taken in the message and the piece already.
+    /// Adds a piece to its message. `entries` is how many entries the journal has before the one
+    /// that adds it. `ready`, where it is given, is the running tag that has taken in the message
+    /// and the piece already.
     pub(crate) fn add_piece(&mut self, bytes: &[u8], ready: Option<&RunningTag>, entries: u64)
         ensures { IsUpdateOf (record {
           bytes = bytes.now;

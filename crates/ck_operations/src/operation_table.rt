@@ -40,7 +40,7 @@ impl Operations {
     ghost use Rattle.ck_operations.specs.Moves.{Start, Add, End, OnlyIn, OnlyInSession, OnlyNamed};
     ghost use Rattle.ck_operations.specs.Moves.{InAll, IsStartOf};
 
-    /// No operations, as where a journal starts, which takes no memory.
+    /// No operations, as at the start of a journal. This takes no memory.
     pub fn new(alloc: Global) -> Operations
         ensures { (b : Base) → OperationsAgree (start b) result }
     {

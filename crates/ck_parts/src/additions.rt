@@ -39,8 +39,8 @@ pub(crate) fn create_object(objects: &mut Store, session: u64, attributes: Boxed
     objects.create(session, attributes.into_inner());
 }
 
-/// Starts a digest, where the session has none, by the entry after the first `entries` ones. There
-/// must be room for it.
+/// Starts a digest, where the session has none. There must be room for it. `entries` is how many
+/// entries the journal has before this one.
 #[inline(never)]
 pub(crate) fn start_digest(operations: &mut Operations, session: u64, hash: Hash, entries: u64)
     requires { 0 < operations.old.spare }
@@ -68,8 +68,8 @@ fn key_value(objects: &Store, number: u64) -> &[u8]
 
 impl Parts {
     /// Starts a signature or a verification under the key of this number, where the session has
-    /// none of the kind, by the entry after the first `entries` ones. There must be room for it.
-    /// `len` is how many bytes a signature has.
+    /// none of the kind. There must be room for it. `len` is how many bytes a signature has, and
+    /// `entries` how many entries the journal has before this one.
     #[inline(never)]
     pub(crate) fn start_hmac(
         &mut self,

@@ -3,7 +3,8 @@ use ck_journal::OperationKind;
 use ck_objects::{KeyState, Record, Template};
 use ck_types::{Hash, Pin, Sequence, UserType};
 
-/// What an answered call changes of sessions, objects and operations.
+/// What an answered call changes of sessions, objects and operations. `session` is a handle;
+/// objects and keys are named here by their numbers.
 #[derive(Drop)]
 pub enum Change {
     Nothing,

@@ -124,7 +124,7 @@ fn check_script<K: TokenId>(alloc: Global, script: &StepScript<K>) -> anyhow::Re
     check_taken(script)?;
     let mut known = FIRST;
     let mut answered = 0u64;
-    for answer in script.replies() {
+    for answer in script.answers() {
         match answer {
             Answered::Reply { seen, .. } => {
                 ensure!(known < *seen, "a caller knows no more after its call");
@@ -309,8 +309,9 @@ impl<'a, K: TokenId, R: Runtime> Shared<'a, K, R> {
     }
 
     /// Checks that the second caller, when it has made a call that leaves the sessions, the login
-    /// and the PINs as they are, is answered without the lock as before. Then it sees a login of
-    /// the first by asking only.
+    /// and the PINs as they are, is answered without the lock as before, and that so is the first
+    /// caller when it has learnt of that call. Then the second sees a login of the first by asking
+    /// only.
     fn check_own_call(&self, callers: &mut [Caller<K>]) -> anyhow::Result<()> {
         let alloc = self.rt.alloc();
         let (session, ask) = (1, Ask::Session(1));
@@ -319,7 +320,11 @@ impl<'a, K: TokenId, R: Runtime> Shared<'a, K, R> {
         let second = caller_at(callers, 1)?;
         self.make_call(second, Call::GetTokenInfo)?;
         check_ask(alloc, second, ask, public)?;
-        self.make_call(caller_at(callers, 0)?, user_login())?;
+        let news = second.news();
+        let first = caller_at(callers, 0)?;
+        first.learn(&news);
+        check_ask(alloc, first, ask, public)?;
+        self.make_call(first, user_login())?;
         let second = caller_at(callers, 1)?;
         await_status(alloc, second, ask, public, user)?;
         ensure!(

@@ -1,4 +1,4 @@
-//! A long message that is taken in before its call counts, although another caller has made a call
+//! A long message that is taken in before its call counts, although another caller has made calls
 //! since: its bytes aren't taken in once more under the lock.
 use crate::journals::check_audit;
 use crate::shared_work::{Shared, SharedWork, share_timed};
@@ -13,6 +13,9 @@ const LENGTH: usize = 1 << 20;
 
 /// How many calls there are: three, and then ten messages that are added to a digest.
 const CALLS: u32 = 13;
+
+/// How many calls the other caller makes between the work on a message and its call.
+const CALLS_BETWEEN: u32 = 20;
 
 /// How many times the calls are timed at most.
 const TRIES: u32 = 5;
@@ -37,7 +40,7 @@ fn call_of(alloc: Global, number: u32) -> anyhow::Result<Call> {
 
 impl<'a, K: TokenId, R: Runtime> Shared<'a, K, R> {
     /// A caller makes a call. Between the work on a message that it brings and the call, another
-    /// caller makes one.
+    /// caller makes some.
     fn call_behind(
         &self,
         caller: &mut Caller<K>,
@@ -46,19 +49,21 @@ impl<'a, K: TokenId, R: Runtime> Shared<'a, K, R> {
     ) -> anyhow::Result<()> {
         let alloc = self.rt.alloc();
         let message = self.token.take_in(self.rt, &call);
-        self.make_call(other, Call::GetTokenInfo)?;
+        for _ in 0..CALLS_BETWEEN {
+            self.make_call(other, Call::GetTokenInfo)?;
+        }
         let reply = self
             .token
             .call_after(self.rt, alloc, caller, call, message)?;
         ensure!(
             reply.rv == Rv::Ok,
-            "a call behind one of another caller is refused"
+            "a call behind those of another caller is refused"
         );
         Ok(())
     }
 
-    /// Behind short calls the first of two callers makes the calls with the messages, each after a
-    /// call of the other.
+    /// Behind short calls the first of two callers makes the calls with the messages, each after
+    /// calls of the other.
     pub(crate) fn make_calls_behind(&self, callers: &mut [Caller<K>]) -> anyhow::Result<()> {
         self.make_short_calls(callers)?;
         let [caller, other] = callers else {
@@ -83,7 +88,7 @@ fn time_unshared<R: CpuClock + Runtime>(rt: &R) -> anyhow::Result<Duration> {
     Ok(rt.process_cpu_time()?.saturating_sub(before))
 }
 
-/// What they take on a shared token, each after a call of the other caller. Says how many calls
+/// What they take on a shared token, each after calls of the other caller. Says how many calls
 /// there are, too.
 fn time_behind<R: CpuClock + Runtime>(rt: R) -> anyhow::Result<(Duration, u64)> {
     let (time, (token, _outcome)) = share_timed(rt, &SharedWork::CallsBehindCalls)?;

@@ -61,7 +61,7 @@ fn check_script<K: TokenId>(
     entry: u64,
 ) -> anyhow::Result<u64> {
     check_taken(script)?;
-    let answers = script.replies();
+    let answers = script.answers();
     ensure!(
         matches!(answers.first(), Some(Answered::Reply { seen, .. }) if *seen == entry),
         "the first step isn't a call, or its entry isn't the one that it must be",

@@ -2,6 +2,7 @@
 use crate::asks::check_status;
 use crate::journals::{
     CallerReplies, check_entries, check_in_any_order, check_number, check_order, check_replies,
+    check_token,
 };
 use crate::orders::CallOrder;
 use crate::races::{Race, RaceLine, races_in};
@@ -103,5 +104,7 @@ pub(crate) fn check_judges(alloc: Global) -> anyhow::Result<u64> {
     let mut token = Token::new(alloc, Limits::largest());
     refusals.add_replies(alloc, &mut token, race)?;
     refusals.add_entries(alloc, token.journal(), &race.lines, &wrong.lines)?;
+    // A reply in the right order that isn't that of its line.
+    refusals.add(check_token(alloc, &mut token, wrong, &[1, 2]))?;
     Ok(refusals.count)
 }

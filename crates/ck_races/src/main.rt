@@ -58,7 +58,7 @@ use held_steps::run_held_steps;
 use judges::check_judges;
 use locked_calls::run_locked_calls;
 use long_messages::run_long_messages;
-use reserved::{make_reserved_calls, reserved_token};
+use reserved::{make_reserved_calls, reserve};
 use sleeping::run_sleeping;
 use std::alloc::AllocError;
 use std::env;
@@ -103,10 +103,10 @@ fn run_all<R: CpuClock + Env + Files + Runtime>(rt: R, text: &mut String) -> any
         match word.as_str() {
             "in-turn" => mode = Mode::InTurn,
             "reserve" => {
-                reserved_token(rt.alloc())?;
+                reserve(rt.alloc())?;
                 return Ok(());
             }
-            "reserved" => return make_reserved_calls(rt.alloc(), &mut reserved_token(rt.alloc())?),
+            "reserved" => return make_reserved_calls(rt.alloc(), reserve(rt.alloc())?),
             name => run_file(rt, text, name, mode)?,
         }
     }

@@ -2,7 +2,10 @@
 //! (`bench/growths.py` refuses it).
 use crate::tokens::{lines_in, make_calls};
 use anyhow::ensure;
-use ck_token::{Call, KeyState, Limits, Rv, Token};
+use ck_token::{
+    Attribute, Bytes, Call, JournaledToken, KeyState, Limits, NoMemory, Rv, RvError, Template,
+    Token,
+};
 use std::alloc::Global;
 
 /// The user is logged in, and has a key.
@@ -16,6 +19,22 @@ const FIRST_CALLS: [&str; 7] = [
     "1 CreateObject 1 0=0400000000000000,100=1000000000000000,11=4a656665 -> 0 4294967297",
 ];
 
+/// Begins a digest in the session.
+const DIGEST: [&str; 1] = ["1 DigestInit 1 250 -> 0"];
+
+/// How many bytes the calls bring that are made by the trait.
+const LENGTH: usize = 100;
+
+/// Tokens with room for more entries in their journals, and calls with bytes, one that is answered
+/// CKR_OK and one that is refused.
+#[derive(Drop)]
+pub(crate) struct Reserved {
+    own: Token,
+    by_trait: Token,
+    update: Call,
+    refused: Call,
+}
+
 /// Makes the first calls, and reserves room for three more entries in the journal.
 fn make_first_calls(alloc: Global, token: &mut Token) -> anyhow::Result<()> {
     make_calls(alloc, token, &lines_in(alloc, &FIRST_CALLS)?)?;
@@ -23,15 +42,72 @@ fn make_first_calls(alloc: Global, token: &mut Token) -> anyhow::Result<()> {
     Ok(())
 }
 
-/// A token with room for three more entries in its journal.
-pub(crate) fn reserved_token(alloc: Global) -> anyhow::Result<Token> {
+/// A token after the first calls, with room for three more entries.
+fn reserved_token(alloc: Global) -> anyhow::Result<Token> {
     let mut token = Token::new(alloc, Limits::largest());
     make_first_calls(alloc, &mut token)?;
     Ok(token)
 }
 
+/// The same, with an active digest.
+fn token_with_digest(alloc: Global) -> anyhow::Result<Token> {
+    let mut token = reserved_token(alloc)?;
+    make_calls(alloc, &mut token, &lines_in(alloc, &DIGEST)?)?;
+    Ok(token)
+}
+
+/// An update of the digest, and a creation in a session that isn't open.
+fn calls_with_bytes(alloc: Global) -> Result<(Call, Call), NoMemory> {
+    let bytes = Bytes::from_vec(vec![in alloc; b'a'; LENGTH]?);
+    let template = Template::new(alloc).bytes(Attribute::Label, &[b'a'; LENGTH])?;
+    let update = Call::DigestUpdate { session: 1, bytes };
+    let refused = Call::CreateObject {
+        session: 2,
+        template,
+    };
+    Ok((update, refused))
+}
+
+/// Takes all memory that is taken.
+pub(crate) fn reserve(alloc: Global) -> anyhow::Result<Reserved> {
+    let (update, refused) = calls_with_bytes(alloc)?;
+    Ok(Reserved {
+        own: reserved_token(alloc)?,
+        by_trait: token_with_digest(alloc)?,
+        update,
+        refused,
+    })
+}
+
+/// Makes the calls by the trait, by which threads call a token, too.
+fn make_by_trait<T: JournaledToken>(
+    alloc: Global,
+    token: &mut T,
+    update: Call,
+    refused: Call,
+) -> anyhow::Result<()> {
+    let updated = token.call(alloc, 1, update)?;
+    ensure!(updated.rv == Rv::Ok, "an update with reserved room is refused");
+    let reply = token.call_after(alloc, 1, refused, None)?;
+    let wanted = Rv::Error(RvError::SessionHandleInvalid);
+    ensure!(reply.rv == wanted, "a creation in no session has another code");
+    Ok(())
+}
+
+/// Makes the calls, which take no memory.
+pub(crate) fn make_reserved_calls(alloc: Global, reserved: Reserved) -> anyhow::Result<()> {
+    let Reserved {
+        mut own,
+        mut by_trait,
+        update,
+        refused,
+    } = reserved;
+    make_last_calls(alloc, &mut own)?;
+    make_by_trait(alloc, &mut by_trait, update, refused)
+}
+
 /// The key is destroyed, its object is, and all sessions are closed.
-pub(crate) fn make_reserved_calls(alloc: Global, token: &mut Token) -> anyhow::Result<()> {
+fn make_last_calls(alloc: Global, token: &mut Token) -> anyhow::Result<()> {
     let (session, key) = (1, 0x1_0000_0001);
     let calls = [
         Call::SetKeyState {

@@ -45,7 +45,7 @@ fn one_script<K: TokenId>(
 /// How many of this many calls of the one script were answered.
 fn count_answered<K: TokenId>(scripts: &[Script<K>], calls: usize) -> anyhow::Result<usize> {
     let script = scripts.first().context("a script is missing")?;
-    let answered = script.replies().len();
+    let answered = script.answers().len();
     let is_done = script.started() && script.outcome().is_ok();
     ensure!(is_done == (answered == calls), "a script ended early");
     Ok(answered)

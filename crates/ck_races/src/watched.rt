@@ -19,8 +19,9 @@ use std::sync::atomic::{AtomicU64, Ordering};
 /// How many calls with long messages the caller makes, one of each kind.
 const LONG_CALLS: u64 = 6;
 
-/// What the one caller does: two short calls that change the board, nine that don't, and one call
-/// of each kind that brings a long message.
+/// What the one caller does: two short calls that change the board, ten that don't, of which one
+/// brings a message that is a byte too short to be long, and one call of each kind that brings a
+/// long message.
 const CALLS: &str = "\
 race
 1 InitToken 31323334 -> 0
@@ -33,6 +34,7 @@ race
 1 DigestUpdate 1 61*4096 -> 0
 1 SignUpdate 1 61*4096 -> 0
 1 VerifyUpdate 1 61*4096 -> 0
+1 DigestUpdate 1 61*4095 -> 0
 1 SessionCancel 1 2c00 -> 0
 1 DigestInit 1 250 -> 0
 1 SignInit 1 251 1 -> 0

@@ -162,7 +162,8 @@ fn push_body(out: &mut Vec<u8>, body: &Body) -> Result<(), NoMemory>
     }
 }
 
-/// Appends the text of a reply, without a line end.
+/// Appends the text of a reply, without a line end. Where there is no memory, no clause says what
+/// `out` has.
 pub fn push_line(out: &mut Vec<u8>, reply: &Reply) -> Result<(), NoMemory>
     ensures { OnOk result (out.new.items ≡ out.old.items ++ reply_line reply.now) }
 {
@@ -170,7 +171,8 @@ pub fn push_line(out: &mut Vec<u8>, reply: &Reply) -> Result<(), NoMemory>
     push_body(out, &reply.body)
 }
 
-/// Appends the text of a reply, its line end included.
+/// Appends the text of a reply, its line end included. Where there is no memory, no clause says
+/// what `out` has.
 pub fn push_reply(out: &mut Vec<u8>, reply: &Reply) -> Result<(), NoMemory>
     ensures { OnOk result (out.new.items ≡ out.old.items ++ reply_text reply.now) }
 {

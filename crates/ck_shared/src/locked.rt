@@ -50,8 +50,8 @@ where
         (published l.writer) × (pending l.writer ≡ []) };
 }
 
-/// Makes an empty slot for the board after a call, and appends one of its two handles to the
-/// writer's operations. `None` where the call leaves the board as it is.
+/// Makes an empty slot for the board after a call, and hands one of its two handles to the writer,
+/// which applies it when it publishes. `None` where the call leaves the board as it is.
 fn add_slot<K: TokenId, R: Wait + Drop>(
     alloc: Global,
     writer: &mut WriteHandle<BoardCopy<K>, BoardSlot<K>, R>,
@@ -284,8 +284,8 @@ impl<K: TokenId, T: JournaledToken, R: Wait + Drop> Locked<K, T, R> {
         let keeps_board = call.keeps_board();
         let slot = add_slot(alloc, &mut self.writer, keeps_board)?;
         let Ok(reply) = self.token.call_after(alloc, number, call, work) else {
-            // The slot is appended already. It is filled with the board as it is and published, so
-            // that no operation waits.
+            // The writer has the slot already. It is filled with the board as it is and published,
+            // so that nothing is left pending.
             publish_board(rt, &mut self.writer, slot, &self.token, &self.known);
             return Err(NoMemory);
         };

@@ -33,14 +33,16 @@ pub struct TakenMessage<K: TokenId> {
     pub(crate) front: Front<K>,
 }
 
-/// How many times a thread looks whether the lock is free before it sleeps.
+/// How many times a thread looks whether the lock is free before it calls std's `lock`, in which it
+/// sleeps.
 const LOOKS: u32 = 11;
 
-/// After how many looks a thread only pauses. These pauses take about a microsecond together.
+/// How many of these looks, the first ones, are each followed only by a pause. The pauses take
+/// about a microsecond together.
 const QUICK_LOOKS: u32 = 5;
 
-/// How many times a thread lets others run after the look that follows, which takes about 20
-/// microseconds. After each later look these are twice as many times as before.
+/// How many times a thread lets others run after the first look behind those, which takes about 20
+/// microseconds. After each later look it does so twice as many times as before.
 const YIELDS: u32 = 64;
 
 /// Lets other threads run this many times.

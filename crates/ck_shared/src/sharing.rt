@@ -52,7 +52,6 @@ fn show_number<K: TokenId, R: Runtime>(rt: &R, caller: &Caller<K>, number: u32)
 /// their order.
 fn act_together<K: TokenId + Send + Sync, G: Gate<K> + Sync, C: CallerWork<R> + Sync, R: Runtime>(
     rt: &R,
-    alloc: Global,
     gate: &G,
     callers: Vec<Caller<K>>,
     work: &C,
@@ -116,7 +115,7 @@ fn work_on<K: TokenId + Send + Sync, T: JournaledToken + Send, C: CallerWork<R> 
     let Ok(mut outputs) = Vec::with_capacity(alloc, callers.len()) else {
         return (shared.into_token(), Err(NoMemory));
     };
-    let done = act_together(rt, alloc, &shared, callers, work);
+    let done = act_together(rt, &shared, callers, work);
     let mut locked = shared.into_locked();
     match done {
         Ok(done) => {

@@ -20,7 +20,8 @@ pub(crate) fn copy_objects(
     let mut kept = Vec::with_capacity(alloc, objects.len())?;
     for place in index {
         if let Some(object) = object_at(objects, *place) {
-            kept.push(object.kept(alloc)?)?;
+            // No `push_reserved`: no clause says that the index has no more objects than the slab.
+            kept.push(object.kept()?)?;
         }
     }
     Ok(kept)

@@ -1,3 +1,5 @@
+//! What ends session objects. These functions see only the slab and the lists, so their clauses
+//! speak of these, and those of `Store` of a history.
 ghost use Rattle.std.specs.Prelude.{◌≡◌, ℕ, Bool, Contains, Some, true};
 ghost use Rattle.ck_store.specs.Rows.{is_ended_by, concerns};
 ghost use Rattle.ck_store.specs.Index.{LeavesOthers, HasNone, IsListed};
@@ -20,20 +22,19 @@ pub(crate) enum Ending {
 }
 
 impl Ending {
-    /// Whether it ends the objects of this list of the session: its list of private objects, or
-    /// that of its public ones.
-    pub(crate) fn concerns(self, session: u64, private: bool) -> bool
-        ensures { result ≡ concerns self session private }
+    /// Whether it ends the objects of this list.
+    pub(crate) fn concerns(self, list: &SessionList) -> bool
+        ensures { result ≡ concerns self list.now.session list.now.private }
     {
         match self {
-            Ending::Session(closed) => closed == session,
+            Ending::Session(closed) => closed == list.session,
             Ending::AllSessions => true,
-            Ending::Logout => private,
+            Ending::Logout => list.private,
         }
     }
 }
 
-/// Removes the object of the place, where the ending is about it.
+/// Removes the object of the place, where the ending ends it.
 fn end_object(objects: &mut Slab<StoredObject>, place: Place, ending: Ending)
     ensures left { LeavesOthers (is_ended_by ending) objects.old objects.new }
     ensures ended { HasNone (is_ended_by ending) objects.new place }
@@ -41,14 +42,14 @@ fn end_object(objects: &mut Slab<StoredObject>, place: Place, ending: Ending)
     let Some(object) = object_at(objects, place) else {
         return;
     };
-    // Each object of a list that the ending concerns ends. It is asked again for the clauses, and
-    // for the newest object, which is in no list.
+    // An ending that concerns a list ends each of its objects. This test is made again for the
+    // clauses, and for the newest object, which is in no list.
     if object.is_ended_by(ending) {
         objects.try_remove(place.key);
     }
 }
 
-/// Removes those objects of these places that the ending is about.
+/// Removes those objects of these places that the ending ends.
 fn end_objects(objects: &mut Slab<StoredObject>, places: &[Place], ending: Ending)
     ensures left { LeavesOthers (is_ended_by ending) objects.old objects.new }
     ensures ended { (p : Place) → Contains places.now p
@@ -59,7 +60,7 @@ fn end_objects(objects: &mut Slab<StoredObject>, places: &[Place], ending: Endin
     }
 }
 
-/// Removes the objects that the ending is about, by the lists that it concerns.
+/// Removes the objects that the ending ends, by the lists that it concerns.
 pub(crate) fn end_listed(objects: &mut Slab<StoredObject>, lists: &[SessionList], ending: Ending)
     ensures left { LeavesOthers (is_ended_by ending) objects.old objects.new }
     ensures ended { (session : ℕ) (private : Bool) (p : Place)
@@ -67,7 +68,7 @@ pub(crate) fn end_listed(objects: &mut Slab<StoredObject>, lists: &[SessionList]
         → HasNone (is_ended_by ending) objects.new p }
 {
     for list in lists {
-        if ending.concerns(list.session, list.private) {
+        if ending.concerns(list) {
             end_objects(objects, &list.places, ending);
         }
     }

@@ -1,5 +1,6 @@
 //! Marks of labels. By them a search for a label passes over most objects with another label, and
-//! looks at none of their attributes.
+//! looks at none of their attributes. 0 stands for no mark: an `Option` would take twice the bytes
+//! for each object.
 ghost use Rattle.std.specs.Prelude.{◌≡◌, ◌≢◌, ◌⊎◌, ℕ, get_or};
 ghost use Rattle.ck_store.specs.Labels.{label_mark, IsMarkOf, IsWanted, has_other_label};
 
@@ -24,7 +25,7 @@ fn label_mark(label: &[u8]) -> u32
     mark
 }
 
-/// The mark of an object's label. 0 counts as no mark, also where a label has it.
+/// The mark of an object's label. A mark of 0 counts as none, even where it is a label's.
 pub(crate) fn mark_of(attributes: &Record) -> u32
     ensures { IsMarkOf attributes.now result }
 {

@@ -1,3 +1,5 @@
+//! Where objects lie. These functions see only the slab and the index, so their clauses speak of
+//! these, and those of `Store` of a history.
 ghost use Rattle.std.specs.Prelude.{◌≡◌, ◌<◌, ◌+◌, ◌-◌, ℕ, length, find, filter, position, get_or};
 ghost use Rattle.std.specs.Prelude.{IfOk, IfSome, IsOk, Contains, Some, []};
 ghost use Rattle.std.specs.Option.{option_copied};
@@ -42,8 +44,8 @@ fn is_there(objects: &Slab<StoredObject>, place: Place) -> bool
 }
 
 /// A guess at the position of a number in the index: as far from the first position as the number
-/// is from the index's first number. `None` where the number doesn't stand there. It stands there
-/// where no number from the first to it is missing.
+/// is from the index's first number. `None` where the number doesn't stand there, as where a number
+/// between the two is missing.
 fn guess_position(index: &[Place], number: u64) -> Option<usize>
     ensures found { IfSome result (λ i. (i < length index.now)
         × ((get_or index.now i (place 0 0)).number ≡ number)) }
@@ -172,7 +174,7 @@ pub(crate) fn change_at(objects: &mut Slab<StoredObject>, key: usize, values: Te
     }
 }
 
-/// Gives the cryptographic key that lies under the slab's key this state.
+/// Gives the secret key that lies under the slab's key this state.
 pub(crate) fn set_state_at(objects: &mut Slab<StoredObject>, key: usize, state: KeyState)
     ensures { (number : ℕ) → IsKeyOf objects.old number (Some key)
         → IsChanged (with_key_state number state) objects.old objects.new }

@@ -1,3 +1,5 @@
+//! Lists of the session objects of each session. These functions see only the slab and the lists,
+//! so their clauses speak of these, and those of `Store` of a history.
 ghost use Rattle.std.specs.Prelude.{◌≡◌, ◌<◌, ◌⊎◌, ℕ, [], Some, Bool, Contains, IsOk, OnOk, IfSome};
 ghost use Rattle.std.specs.Prelude.{List, None, length, position, All, true, vec_len, vec_capacity};
 ghost use Rattle.ck_store.specs.Rows.{ObjectRow};
@@ -34,7 +36,8 @@ impl SessionList {
         }
     }
 
-    /// Whether it is the session's list of private objects, or of public ones.
+    /// Whether it is the session's list of private objects or, where `private` is false, that of
+    /// public ones.
     fn is_list_of(&self, session: u64, private: bool) -> bool
         ensures { result ≡ is_list_of session private self.now }
     {
@@ -75,7 +78,8 @@ fn make_room(objects: &Slab<StoredObject>, places: &mut Vec<Place>) -> Result<()
     Ok(())
 }
 
-/// Where the session's list for private objects, or that for public ones, stands.
+/// The position of the session's list of private objects or, where `private` is false, of that of
+/// public ones.
 fn position_of(lists: &[SessionList], session: u64, private: bool) -> Option<usize>
     ensures within { IfSome result (λ i. i < length lists.now) }
     ensures position { result ≡ position (is_list_of session private) lists.now }
@@ -85,7 +89,8 @@ fn position_of(lists: &[SessionList], session: u64, private: bool) -> Option<usi
         .position(|list| list.is_list_of(session, private))
 }
 
-/// Adds a place to the list of the session for private objects, or to that for public ones.
+/// Adds a place to the session's list of private objects or, where `private` is false, to that of
+/// public ones.
 fn add_to_list(
     alloc: Global,
     lists: &mut Vec<SessionList>,

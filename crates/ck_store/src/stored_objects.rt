@@ -2,7 +2,6 @@ use crate::endings::Ending;
 use ck_journal::{KeptObject, View};
 use ck_objects::{Attribute, KeyState, Record, Template};
 use ck_types::NoMemory;
-use std::alloc::Global;
 use std::marker::Model;
 
 /// An object that hasn't ended.
@@ -36,13 +35,13 @@ impl StoredObject {
     ghost use Rattle.ck_store.specs.Rows.{object_row, is_private_row, is_match, visible_handle};
     ghost use Rattle.ck_store.specs.Rows.{is_ended_by, kept_of, PassesChange};
 
-    /// An object that the session creates.
+    /// A new object. A session object is this session's, a token object is no session's.
     pub(crate) fn new(number: u64, session: u64, attributes: Record) -> StoredObject
         requires { number < 2 ^ 32 }
         ensures { result ≡ object_row number session attributes }
     {
-        let is_kept = attributes.is_set(Attribute::Token);
-        let session = (!is_kept).then_some(session);
+        let is_token_object = attributes.is_set(Attribute::Token);
+        let session = (!is_token_object).then_some(session);
         StoredObject {
             number,
             session,
@@ -130,7 +129,7 @@ impl StoredObject {
     }
 
     /// A copy of the object as a base has it.
-    pub(crate) fn kept(&self, alloc: Global) -> Result<KeptObject, NoMemory>
+    pub(crate) fn kept(&self) -> Result<KeptObject, NoMemory>
         ensures { IfOk result (λ kept. kept ≡ kept_of self.now) }
     {
         let attributes = self.attributes.clone()?;

@@ -22,8 +22,9 @@ pub struct Store {
     index: Vec<Place>,
     /// The places of session objects, by session. That of the newest one may be missing.
     lists: Vec<SessionList>,
-    /// The newest object, until the next `reserve`, which adds a session object to a list of its
-    /// session. A list may need memory, and a creation takes none once room was made.
+    /// The newest object's place, until the next `reserve`, which adds it to a list of its session
+    /// where it is a session object's. A list may need memory, and a creation takes none once room
+    /// was made.
     unlisted: Option<Place>,
     /// How many objects have been created.
     creations: u64,
@@ -336,7 +337,7 @@ impl Store {
         end_listed(&mut self.objects, &self.lists, ending);
         end_newest(&mut self.objects, self.unlisted, ending);
         self.lists
-            .retain(|list| !ending.concerns(list.session, list.private));
+            .retain(|list| !ending.concerns(list));
         compact(&self.objects, &mut self.index);
     }
 }

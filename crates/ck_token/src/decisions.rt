@@ -5,8 +5,9 @@ use ck_parts::Change;
 use ck_types::{NoMemory, Rv, RvError};
 use std::alloc::AllocError;
 
-/// The reply to a call, and what the call changes. The code and the body stand here apart: a
-/// `Reply` of both has padding, which would be moved with it, so it is made once, at the end.
+/// The reply to a call, as its code and its body, and what the call changes. They are no `Reply`
+/// yet, since its padding would be moved with it: `Token::call_after` makes the replies at its end,
+/// one for the entry and one for the caller.
 #[derive(Drop)]
 pub(crate) struct Decision {
     pub(crate) rv: Rv,

@@ -39,8 +39,8 @@ pub fn run(token: &mut Token, alloc: Global, calls: Vec<(u32, Call)>) -> Result<
     Ok(())
 }
 
-/// Makes a call, and leaves its reply to the journal. The clauses say nothing of the reply, since
-/// the proof of the loop would carry it along.
+/// Makes a call and drops its reply, which stands in the journal too.
+// A function, since the proof of the loop would carry the reply along.
 fn make_call(token: &mut Token, alloc: Global, caller: u32, call: Call) -> Result<(), NoMemory>
     ensures answered { OnOk result (IsAnswered token.old token.new caller call
         (answer token.old.limits token.old.history call)) }

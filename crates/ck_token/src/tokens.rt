@@ -76,15 +76,14 @@ fn reply_with(rv: Rv, body: Body) -> Reply
     Reply { rv, body }
 }
 
-/// What may fail when a call is entered: the journal's copy of the reply's body, and room for the
-/// entry and for what the change adds.
+/// Does what may fail when a call is entered: makes the journal's copy of the reply's body, and
+/// room for the entry and for what the change adds.
 // Inlined, as `decide` and `dispatch` are: a decision is large, and functions of their own would
 // copy it.
 #[inline(always)]
 fn prepare(
     parts: &mut Parts,
     journal: &mut Journal,
-    alloc: Global,
     body: &Body,
     change: &Change,
 ) -> Result<Body, NoMemory>
@@ -126,6 +125,7 @@ impl Token {
     }
 
     /// A token that starts from a base, such as that of a journal, and has answered no call since.
+    /// Where there is no memory, the base is dropped.
     pub fn from_base(alloc: Global, limits: Limits, base: Base) -> Result<Token, NoMemory>
         requires { IsSound base }
         ensures limits { IfOk result (λ token. token.limits ≡ limits) }
@@ -136,7 +136,7 @@ impl Token {
     }
 
     /// A token of a journal without entries, and of the parts that it starts with.
-    // So that the invariant is shown once for both.
+    // A function, so that the invariant is shown once for `new` and for `from_base`.
     fn of(limits: Limits, parts: Parts, journal: Journal) -> Token
         requires empty { journal.history ≡ start (start_of journal.history) }
         requires agree { PartsAgree journal.history parts }
@@ -194,10 +194,10 @@ impl Token {
         self.limits
     }
 
-    /// Takes the journal out; the token goes on with a new one, which starts from what is left of
-    /// the calls so far and has no entry. It may have no room for entries. Where a session is open,
-    /// which is looked at first, or there is no memory, nothing has changed. All later calls are
-    /// answered as they would have been.
+    /// Takes the journal out. The token goes on with a new one, which starts from what the calls so
+    /// far leave, has no entries and may have no room for any. Where a session is open, which is
+    /// looked at first, or there is no memory, nothing has changed. All later calls are answered as
+    /// they would have been.
     pub fn cut(&mut self, alloc: Global) -> Result<Journal, Uncut>
         ensures cut { IsCut self.old self.new result }
         ensures taken { OnOk result (IsSoundHistory self.old.limits self.old.history) }
@@ -265,7 +265,7 @@ impl Token {
         let Ok(Decision { rv, body, change }) = self.decide(alloc, &call, ready) else {
             return Err(out_of_memory(call));
         };
-        let Ok(entered) = prepare(&mut self.parts, &mut self.journal, alloc, &body, &change) else {
+        let Ok(entered) = prepare(&mut self.parts, &mut self.journal, &body, &change) else {
             return Err(out_of_memory((call, body, change)));
         };
         let entries = self.journal.len();
@@ -356,7 +356,7 @@ impl Token {
                 session,
                 object,
                 template,
-            } => self.set_attribute_value(alloc, *session, *object, template),
+            } => self.set_attribute_value(*session, *object, template),
             Call::SetKeyState {
                 session,
                 key,

@@ -146,24 +146,43 @@ const FLAGS: [Attribute; 10] = [
     Attribute::Wrap,
 ];
 
-/// A template with the flags and with a value of 4,096 bytes.
+/// How many bytes a value has in a template that a program makes.
+const VALUE: usize = 300_000;
+
+/// A template with the flags and with a long value.
 fn long_template(alloc: Global) -> Result<Template, NoMemory> {
     let mut template = Template::new(alloc);
     for flag in FLAGS {
         template = template.flag(flag, true)?;
     }
-    let value = vec![in alloc; 7u8; 4_096]?;
+    let value = vec![in alloc; 7u8; VALUE]?;
     template.bytes(Attribute::Value, &value)
+}
+
+/// Checks how many bytes the values of a template have.
+fn check_lengths<R: Abort>(rt: &R, template: &Template, lengths: &[usize]) {
+    let items = template.items.as_slice();
+    assert_eq!(rt; items.len(), lengths.len());
+    for (item, length) in items.iter().zip(lengths) {
+        assert_eq!(rt; item.value.as_slice().len(), *length);
+    }
 }
 
 #[test]
 fn a_template_is_made_of_many_attributes(rt: HostRuntime) -> Result<(), Fail> {
     let template = long_template(rt.alloc())?;
-    let lengths = [1, 1, 1, 1, 1, 1, 1, 1, 1, 1, 4_096];
-    assert_eq!(rt; template.items.as_slice().len(), lengths.len());
-    for (item, length) in template.items.as_slice().iter().zip(&lengths) {
-        assert_eq!(rt; item.value.as_slice().len(), *length);
-    }
+    check_lengths(&rt, &template, &[1, 1, 1, 1, 1, 1, 1, 1, 1, 1, VALUE]);
+    Ok(())
+}
+
+/// The most bytes that a key has.
+const KEY: usize = 4_096;
+
+#[test]
+fn a_template_of_a_key_may_have_the_longest_value(rt: HostRuntime) -> Result<(), Fail> {
+    let value = vec![in rt.alloc(); 7u8; KEY]?;
+    let template = Template::secret_key(rt.alloc(), &value)?;
+    check_lengths(&rt, &template, &[8, 8, KEY]);
     Ok(())
 }
 

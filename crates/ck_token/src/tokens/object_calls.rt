@@ -227,7 +227,6 @@ impl Token {
     /// item, 10 where it weakens a key.
     pub(super) fn set_attribute_value(
         &self,
-        alloc: Global,
         session: u64,
         object: u64,
         template: &Template,

@@ -21,7 +21,8 @@ use ck_parts::Change;
 use ck_types::{Bytes, Mechanism, NoMemory, Rv, RvError, digest_of, error_if, mac_of};
 use std::alloc::Global;
 
-/// The change of a reply to a message. Where `ends` is false the operation stays.
+/// The change of a reply that may end the session's operation: it ends where `ends` is true, else
+/// it stays.
 // A function, since the proof of `verify` names what is known after it.
 fn finish_operation(kind: OperationKind, session: u64, ends: bool) -> Change
     ensures { result ≡ change.FinishOperation kind session ends }
@@ -215,12 +216,12 @@ impl Token {
         let len = mechanism
             .tag_length()
             .ok_or(RvError::MechanismParamInvalid)?;
-        let key = self.check_usable_key(kind, key)?;
+        let number = self.check_usable_key(kind, key)?;
         Ok(Decision::of_change(Change::StartHmac {
             kind,
             session,
             hash,
-            key,
+            key: number,
             len,
         }))
     }

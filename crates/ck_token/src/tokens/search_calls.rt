@@ -58,8 +58,8 @@ impl Token {
         })
     }
 
-    /// The handles of the objects of these numbers that are visible, at most `max` of them. Where
-    /// there is none, this takes no memory.
+    /// The handles of those objects of these numbers that are visible, of the first `max` of them.
+    /// Where there is none, this takes no memory.
     fn visible_handles(
         &self,
         alloc: Global,

@@ -15,7 +15,9 @@ fn takes_long_message(call: &Call, operation: &Operation) -> bool {
             room.is_some_and(|room| operation.tag_len() <= room) && !operation.is_updated()
         }
         Call::Verify { .. } => !operation.is_updated(),
-        _ => true,
+        Call::DigestUpdate { .. } | Call::SignUpdate { .. } | Call::VerifyUpdate { .. } => true,
+        // No other call brings bytes of a message.
+        _ => false,
     }
 }
 
@@ -45,7 +47,7 @@ impl Token {
 
     /// The running tag of the work, where the call's operation was last changed before the work was
     /// begun.
-    // Inlined, since a short call has no work, which is one look.
+    // Inlined: a short call has no work, and then this is one test.
     #[inline(always)]
     pub(super) fn ready_tag<'a>(
         &self,
