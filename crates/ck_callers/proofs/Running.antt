@@ -4,7 +4,7 @@ use Rattle.std.specs.List.{AllZip}
 use Rattle.std.specs.Prelude.{MatchBool, vec_items}
 use Rattle.ck_types.specs.TokenLimits.{Ranges}
 use Rattle.ck_journal.specs.declared.calls.Call.{Call}
-use Rattle.ck_journal.specs.declared.answers.Reply.{Reply}
+use Rattle.ck_journal.specs.declared.replies.Reply.{Reply}
 use Rattle.ck_callers.specs.Callers.{HasCalled}
 use Rattle.ck_callers.specs.Runs.{HasRun, AreMade, AreStepsTaken}
 use Rattle.ck_callers.specs.Steps.{HasStepped, IsCall}

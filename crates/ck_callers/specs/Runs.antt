@@ -2,7 +2,7 @@
 use Rattle.std.specs.Prelude.{◌≡◌, [], MatchBool, vec_items}
 use Rattle.ck_types.specs.TokenLimits.{Ranges}
 use Rattle.ck_journal.specs.declared.calls.Call.{Call}
-use Rattle.ck_journal.specs.declared.answers.Reply.{Reply}
+use Rattle.ck_journal.specs.declared.replies.Reply.{Reply}
 use Rattle.ck_callers.specs.Callers.{CallerState}
 use Rattle.ck_callers.specs.NextSteps.{HasMade}
 use Rattle.ck_callers.specs.Scripts.{HasMadeCalls, KnowsItsLast}
