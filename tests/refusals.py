@@ -63,6 +63,9 @@ ELSEWHERE = {
         "placement-alike", ALIKE),
     "ck_journal/definition_of_searches_begins_again": ("search_rest-alike", ALIKE),
     "ck_journal/definition_of_searches_returns_numbers": ("allowed-alike", ALIKE),
+    "ck_program/every_fault_ends_with_status_7": (
+        "returns-then-run-eq0-clause-end_found",
+        "the search gives up at this clause, which is looked at before that of the status"),
     "ck_shared/calls_are_those_of_the_first_caller": (
         "extend-requires-clause-next", "the history is made longer by the entry before the end"),
     "ck_store/objects_are_lost_where_memory_ends": (
