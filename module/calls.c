@@ -74,15 +74,22 @@ CK_RV check_call(const struct call *call) {
                                              : check_template(call->attributes, call->count);
 }
 
-/* Threads are numbered from 1 to 8 in the order in which they first call; the ninth is 1 again. The
- * room for a thread's number is taken when the library is loaded: at a call, the C library would
- * end the process where it is refused. */
+/* How many threads have called, and this one's number, or 0 before its first call. Threads are
+ * numbered from 1 to 8 in the order in which they first call; the ninth is 1 again. The room for a
+ * thread's number is taken when the library is loaded: at a call, the C library would end the
+ * process where it is refused. */
+static uint32_t callers;
+static _Thread_local uint32_t own_number __attribute__((tls_model("initial-exec")));
+
 uint32_t caller_number(void) {
-    static uint32_t threads;
-    static _Thread_local uint32_t number __attribute__((tls_model("initial-exec")));
-    if (number == 0)
-        number = threads++ % 8 + 1;
-    return number;
+    if (own_number == 0)
+        own_number = callers++ % 8 + 1;
+    return own_number;
+}
+
+void forget_callers(void) {
+    callers = 0;
+    own_number = 0;
 }
 
 /* ---- Calls by lines */

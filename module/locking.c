@@ -206,6 +206,7 @@ static void begin_in_child(void) {
     (void)close_file();
     left_by_parent = library;
     library = (struct library){0};
+    forget_callers();
     pthread_mutex_init(&own_mutex, NULL);
 }
 

@@ -248,6 +248,9 @@ CK_RV answer_handle(const struct call *call, CK_ULONG *handle);
 /* A thread's number as a caller. */
 uint32_t caller_number(void);
 
+/* Numbers threads from 1 anew: in the child of a fork, which has one. */
+void forget_callers(void);
+
 /* How many journals the library's tokens have begun in memory: one when a token is made, and one at
  * each cut. */
 extern uint64_t journals_begun;

@@ -308,6 +308,31 @@ static void first_bytes_of_seed(bool is_behind_bad_call, CK_BYTE *out) {
     end_token();
 }
 
+static void begin_anew_with_seed(void) {
+    char text[2000];
+    EXPECT(CKR_OK, p11->C_Finalize(NULL));
+    CK_C_INITIALIZE_ARGS arguments = mutex_arguments();
+    setenv("OSPREYRACK_SEED", "5", 1);
+    keep_errors();
+    begin_token_with(&arguments);
+    read_errors(text, sizeof text);
+    unsetenv("OSPREYRACK_SEED");
+}
+
+/* Another thread has put a token with a seed in place of the call's own, which has none, once the
+ * lock is free: the bytes are the system's all the same. */
+static void test_seed_in_between(void) {
+    CK_BYTE out[32] = {0}, none[32] = {0};
+    CK_C_INITIALIZE_ARGS arguments = mutex_arguments();
+    CK_SESSION_HANDLE session = begin_token_with(&arguments);
+    unlocks_until_change = 1;
+    change = begin_anew_with_seed;
+    EXPECT(CKR_OK, p11->C_GenerateRandom(session, out, sizeof out));
+    CHECK(unlocks_until_change == 0);
+    CHECK(memcmp(out, none, sizeof out) != 0);
+    end_token();
+}
+
 static void test_seed_and_bad_call(void) {
     CK_BYTE first[16] = {0}, second[16] = {0};
     first_bytes_of_seed(false, first);
@@ -667,6 +692,7 @@ static const struct test tests[] = {
     {"random bytes", test_random},
     {"random bytes of a seed", test_seeded_random},
     {"random bytes of a seed behind a call that is refused", test_seed_and_bad_call},
+    {"random bytes while another token begins, which has a seed", test_seed_in_between},
     {"a thread that is cancelled in a call leaves no lock", test_cancelled_thread},
     {"a thread that is cancelled in C_Initialize or C_Finalize leaves no lock",
      test_cancelled_beginning_and_end},

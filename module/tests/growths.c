@@ -3,8 +3,8 @@
  * call has no more of them. Each time the library and its token are new. The call must be answered
  * CKR_HOST_MEMORY, change nothing, and succeed when it is made again. System calls on the journal
  * file are refused, too. Called with the module's file and a temporary folder; linked with
- * -rdynamic, so that the module allocates by these functions, has its file locked, written and cut
- * off by them, and draws the system's random bytes by one of them.
+ * -rdynamic, so that the module allocates by these functions, has its file locked, read, written
+ * and cut off by them, and draws the system's random bytes by one of them.
  */
 #include "support.h"
 
@@ -125,11 +125,15 @@ static const char added_line[] = "1 GetTokenInfo -> 0 4 64 0 0\n";
 static const char *added_file;         /* gets that line before the next lock is taken */
 static int lock_error;                 /* by which each lock of a file fails */
 static int status_error;               /* by which each fstat fails */
+static dev_t added_to_device;          /* in what each fstat answers */
+static long reads_until_error = -1;    /* how many reads there are before one that fails; negative
+                                          where none does */
 static bool refuses_truncation;
 static size_t left_interruptions;      /* of write */
 static size_t open_interruptions, truncation_interruptions, wait_interruptions;
 static int write_error;                /* by which each write fails */
 static int write_signal;               /* which it raises then, or 0 */
+static bool stops_in_write;            /* whoever writes stops there */
 static size_t most_written = SIZE_MAX; /* by one call of write */
 static size_t left_room = SIZE_MAX;    /* for how many bytes there is room on the device */
 static size_t writes;                  /* how often write was called */
@@ -157,9 +161,20 @@ int flock(int file, int operation) {
 }
 
 int fstat(int file, struct stat *status) {
+    int result = -1;
     if (status_error == 0)
-        return (int)syscall(SYS_fstat, file, status);
-    errno = status_error;
+        result = (int)syscall(SYS_fstat, file, status);
+    else
+        errno = status_error;
+    if (result == 0)
+        status->st_dev += added_to_device;
+    return result;
+}
+
+ssize_t read(int file, void *out, size_t length) {
+    if (reads_until_error < 0 || reads_until_error-- > 0)
+        return syscall(SYS_read, file, out, length);
+    errno = EIO;
     return -1;
 }
 
@@ -194,10 +209,22 @@ static size_t least(size_t one, size_t other) {
     return one < other ? one : other;
 }
 
+/* Where a thread stops for good, it tells so by a byte in this pipe. */
+static int ends_of_wait[2];
+
+static void stop_thread(void) {
+    if (syscall(SYS_write, ends_of_wait[1], "x", 1) != 1)
+        _exit(5);
+    for (;;)
+        pause();
+}
+
 ssize_t write(int file, const void *bytes, size_t length) {
     if (file == STDERR_FILENO)
         return syscall(SYS_write, file, bytes, length);
     writes++;
+    if (stops_in_write)
+        stop_thread();
     if (is_interrupted(&left_interruptions))
         return -1;
     if (write_error != 0 || left_room == 0) {
@@ -1345,26 +1372,60 @@ static void *initialize_with_errors(void *ignored) {
     return ignored;
 }
 
-static void initialize_on_small_stack(void) {
+/* How large the stack of a child's thread is, and what the thread does. */
+static size_t stack_size;
+static void *(*run_on_stack)(void *);
+
+static void run_on_small_stack(void) {
     pthread_attr_t attributes_of_thread;
     pthread_t thread;
     pthread_attr_init(&attributes_of_thread);
-    pthread_attr_setstacksize(&attributes_of_thread, (size_t)PTHREAD_STACK_MIN);
-    if (pthread_create(&thread, &attributes_of_thread, initialize_with_errors, NULL) != 0)
+    pthread_attr_setstacksize(&attributes_of_thread, stack_size);
+    if (pthread_create(&thread, &attributes_of_thread, run_on_stack, NULL) != 0)
         _exit(2);
     pthread_join(thread, NULL);
     _exit(3);
+}
+
+/* The status of a child whose thread ends it. */
+static int status_on_stack(size_t size, void *(*run)(void *)) {
+    stack_size = size;
+    run_on_stack = run;
+    return status_of_child(run_on_small_stack);
 }
 
 /* A bad reply in a file, and a bad line in a script. */
 static void test_small_stack(void) {
     write_file(journal, "1 InitToken 31323334 -> 0\n1 OpenSession 6 -> 0 2\n", "w");
     setenv("OSPREYRACK_TOKEN", journal, 1);
-    CHECK(status_of_child(initialize_on_small_stack) == 0);
+    CHECK(status_on_stack((size_t)PTHREAD_STACK_MIN, initialize_with_errors) == 0);
     unsetenv("OSPREYRACK_TOKEN");
     setenv("OSPREYRACK_SCRIPT", journal, 1);
-    CHECK(status_of_child(initialize_on_small_stack) == 0);
+    CHECK(status_on_stack((size_t)PTHREAD_STACK_MIN, initialize_with_errors) == 0);
     unsetenv("OSPREYRACK_SCRIPT");
+}
+
+/* Twice as much as the system gives at least, which is enough, too. */
+enum { SMALL_STACK = 32 << 10 };
+
+static void *make_each_call(void *ignored) {
+    for (size_t i = 0; i < GROWTHS; i++) {
+        struct result result;
+        begin(&growths[i]);
+        if (growths[i].make(&result) != CKR_OK)
+            _exit(1);
+        end_library();
+    }
+    _exit(0);
+    return ignored;
+}
+
+/* A call of each kind, with all that is made before it. */
+static void test_calls_on_small_stack(void) {
+    check(status_on_stack(SMALL_STACK, make_each_call) == 0, "calls on a small stack, typed");
+    setenv("OSPREYRACK_JOURNAL", journal, 1);
+    check(status_on_stack(SMALL_STACK, make_each_call) == 0, "calls on a small stack, by lines");
+    unsetenv("OSPREYRACK_JOURNAL");
 }
 
 /* ---- Lines on standard error */
@@ -1672,6 +1733,47 @@ static void test_mutexes(void) {
     CHECK(number > 2 && number < MOST_GROWTHS && mutexes_made == 1);
 }
 
+/* ---- Queries that aren't answered */
+
+/* Asks for the label of the object, also where there is no memory. Where that isn't answered, the
+ * buffer and the length are as the application gave them. */
+static void ask_for_label(CK_ULONG room, bool lacks_memory, CK_RV expected) {
+    uint8_t *out = guarded_new(room);
+    CK_ATTRIBUTE query = {CKA_LABEL, out, room};
+    refuse_after(lacks_memory ? 0 : -1);
+    CK_RV code = p11->C_GetAttributeValue(session, object, &query, 1);
+    stop_refusing();
+    check_code(code, expected, "C_GetAttributeValue");
+    if (code == CKR_OK)
+        CHECK(query.ulValueLen < room && guarded_is_intact(out, room, query.ulValueLen));
+    else
+        CHECK(query.ulValueLen == room && guarded_is_intact(out, room, 0));
+    guarded_free(out);
+}
+
+/* The label was the token's last reply, and is longer than the room that is given then. */
+static void check_unanswered_query(void) {
+    unlink(journal);
+    begin_library();
+    session = log_in();
+    object = create_data(session, "a label of 20 bytes.");
+    ask_for_label(64, false, CKR_OK);
+    ask_for_label(2, true, CKR_HOST_MEMORY);
+}
+
+static void test_unanswered_queries(void) {
+    check_unanswered_query();
+    end_library();
+    setenv("OSPREYRACK_JOURNAL", journal, 1);
+    check_unanswered_query();
+    write_error = ENOSPC;
+    ask_for_label(64, false, CKR_DEVICE_ERROR);
+    write_error = 0;
+    ask_for_label(2, false, CKR_DEVICE_ERROR);
+    end_library();
+    unsetenv("OSPREYRACK_JOURNAL");
+}
+
 /* ---- The journal file */
 
 /* C_Initialize is refused, and the file is as long as it was, or as another process left it. */
@@ -1715,13 +1817,39 @@ static void test_needless_truncation(void) {
     unsetenv("OSPREYRACK_TOKEN");
 }
 
-/* The last line lacks its end, and can't be cut off. */
+/* Standard error says that the last line, which lacks its end, is dropped, and why it can't be cut
+ * off. */
 static void test_refused_truncation(void) {
     static const char content[] = "1 InitToken 31323334 -> 0\n1 OpenSess";
+    char said[1000], expected[1000];
     write_file(journal, content, "w");
     refuses_truncation = true;
+    keep_errors();
     check_refused("OSPREYRACK_TOKEN", strlen(content));
+    read_errors(said, sizeof said);
     refuses_truncation = false;
+    snprintf(expected, sizeof expected, "ospreyrack: OSPREYRACK_TOKEN: %s, line 2: the last line "
+             "has no end, as a process that was killed leaves it: it is dropped\n"
+             "ospreyrack: OSPREYRACK_TOKEN: the file can't be cut off: %s\n", journal,
+             strerror(EPERM));
+    check(strcmp(said, expected) == 0, said);
+}
+
+/* A file that can't be read to its end isn't taken for one that ends there, and isn't cut off. */
+static void test_unreadable_end(void) {
+    enum { LINES = 200 };
+    char said[1000], expected[1000];
+    write_file(journal, "", "w");
+    for (int i = 0; i < LINES; i++)
+        write_file(journal, added_line, "a");
+    reads_until_error = 1;
+    keep_errors();
+    check_refused("OSPREYRACK_TOKEN", LINES * strlen(added_line));
+    read_errors(said, sizeof said);
+    CHECK(reads_until_error < 0);
+    snprintf(expected, sizeof expected, "ospreyrack: OSPREYRACK_TOKEN: %s: the file can't be read: "
+             "%s\n", journal, strerror(EIO));
+    check(strcmp(said, expected) == 0, said);
 }
 
 static void test_interrupted_write(void) {
@@ -1792,6 +1920,51 @@ static void test_interrupted_wait(void) {
     unlink(journal);
     setenv("OSPREYRACK_JOURNAL", journal, 1);
     CHECK(status_of_child(write_with_signal) == 0);
+    unsetenv("OSPREYRACK_JOURNAL");
+}
+
+/* The signal of a file that is too long stays pending where the application blocks it. */
+static void write_with_blocked_signal(void) {
+    struct result ignored;
+    sigset_t signals;
+    sigemptyset(&signals);
+    sigaddset(&signals, SIGXFSZ);
+    pthread_sigmask(SIG_BLOCK, &signals, NULL);
+    if (p11->C_Initialize(NULL) != CKR_OK)
+        _exit(1);
+    write_signal = SIGXFSZ;
+    write_error = EFBIG;
+    if (get_token_info(&ignored) != CKR_DEVICE_ERROR)
+        _exit(2);
+    sigpending(&signals);
+    _exit(sigismember(&signals, SIGXFSZ) == 1 ? 0 : 3);
+}
+
+static void test_blocked_signal(void) {
+    unlink(journal);
+    setenv("OSPREYRACK_JOURNAL", journal, 1);
+    CHECK(status_of_child(write_with_blocked_signal) == 0);
+    unsetenv("OSPREYRACK_JOURNAL");
+}
+
+/* The descriptor has come to be that of a file on another device, which has the same number
+ * there. */
+static void test_other_device(void) {
+    struct result ignored;
+    char said[1000];
+    unlink(journal);
+    setenv("OSPREYRACK_JOURNAL", journal, 1);
+    begin_library();
+    off_t length = length_of(journal);
+    added_to_device = 1;
+    keep_errors();
+    EXPECT(CKR_DEVICE_ERROR, get_token_info(&ignored));
+    read_errors(said, sizeof said);
+    added_to_device = 0;
+    check(strcmp(said, "ospreyrack: OSPREYRACK_JOURNAL: a call can't be written: the file was "
+                 "closed\n") == 0, said);
+    CHECK(length_of(journal) == length);
+    end_library();
     unsetenv("OSPREYRACK_JOURNAL");
 }
 
@@ -1936,21 +2109,17 @@ static void test_call_behind_end(void) {
     check(status_of_child(end_as_child) == 0, "a call behind the end of a library without a file");
 }
 
-/* A thread that waits in the application's lock, of which it has told by a byte in this pipe. */
-static int ends_of_wait[2];
+/* A thread that stops in the application's lock, or, under the module's own mutex, where it writes
+ * its line. */
 static bool stops_in_lock;
 
 static CK_RV wait_in_lock(CK_VOID_PTR mutex) {
-    if (stops_in_lock) {
-        if (write(ends_of_wait[1], "x", 1) != 1)
-            _exit(5);
-        for (;;)
-            pause();
-    }
+    if (stops_in_lock)
+        stop_thread();
     return leave_mutex(mutex);
 }
 
-static void *call_in_lock(void *ignored) {
+static void *call_and_stop(void *ignored) {
     struct result result;
     get_token_info(&result);
     return ignored;
@@ -1964,14 +2133,9 @@ static ssize_t see_file_behind_end(void *cookie, const char *bytes, size_t lengt
           && stat(journal, &of_file) == 0 && of_descriptor.st_ino == of_file.st_ino ? 0 : 1);
 }
 
-static void end_beside_call(void) {
+/* Ends the process once another thread has stopped, which it does where this is set. */
+static void end_beside_call(CK_C_INITIALIZE_ARGS *arguments, bool *stops) {
     const cookie_io_functions_t functions = {.write = see_file_behind_end};
-    CK_C_INITIALIZE_ARGS arguments = {
-        .CreateMutex = create_mutex,
-        .DestroyMutex = leave_mutex,
-        .LockMutex = wait_in_lock,
-        .UnlockMutex = leave_mutex,
-    };
     pthread_t thread;
     char byte;
     FILE *stream = fopencookie(NULL, "w", functions);
@@ -1979,20 +2143,39 @@ static void end_beside_call(void) {
         _exit(2);
     journal_descriptor = open(other_file, O_RDWR | O_CREAT, 0600);
     close(journal_descriptor);
-    if (p11->C_Initialize(&arguments) != CKR_OK)
+    if (p11->C_Initialize(arguments) != CKR_OK)
         _exit(3);
-    stops_in_lock = true;
-    if (pthread_create(&thread, NULL, call_in_lock, NULL) != 0
+    *stops = true;
+    if (pthread_create(&thread, NULL, call_and_stop, NULL) != 0
         || read(ends_of_wait[0], &byte, 1) != 1)
         _exit(4);
     exit(6);
 }
 
-static void test_end_beside_call(void) {
+static void end_under_application_lock(void) {
+    CK_C_INITIALIZE_ARGS arguments = {
+        .CreateMutex = create_mutex,
+        .DestroyMutex = leave_mutex,
+        .LockMutex = wait_in_lock,
+        .UnlockMutex = leave_mutex,
+    };
+    end_beside_call(&arguments, &stops_in_lock);
+}
+
+static void end_under_own_mutex(void) {
+    end_beside_call(NULL, &stops_in_write);
+}
+
+static void check_end_beside_call(void (*end)(void), const char *what) {
     unlink(journal);
     setenv("OSPREYRACK_JOURNAL", journal, 1);
-    check(status_of_child(end_beside_call) == 0, "the end of a process beside a call");
+    check(status_of_child(end) == 0, what);
     unsetenv("OSPREYRACK_JOURNAL");
+}
+
+static void test_end_beside_call(void) {
+    check_end_beside_call(end_under_application_lock, "a call under the application's lock");
+    check_end_beside_call(end_under_own_mutex, "a call under the module's own mutex");
 }
 
 static const struct test tests[] = {
@@ -2005,6 +2188,7 @@ static const struct test tests[] = {
     {"each growth of C_Initialize is refused, with the application's mutexes", test_mutexes},
     {"C_Initialize where the system refuses the library's function for forks", test_registration},
     {"C_Initialize on the smallest stack tells of bad lines", test_small_stack},
+    {"calls of each kind on a small stack", test_calls_on_small_stack},
     {"a digest in pieces without memory takes nothing or ends, typed", test_digest_pieces},
     {"a digest in pieces without memory takes nothing or ends, by lines",
      test_digest_pieces_by_lines},
@@ -2023,21 +2207,24 @@ static const struct test tests[] = {
     {"memory for 200,000 attributes is given back", test_many_attributes},
     {"the journal in memory is cut at 1,000 entries", test_thousandth_entry},
     {"a thread's first call without memory", test_first_call},
+    {"a query that isn't answered leaves its buffer and its length", test_unanswered_queries},
     {"a file to which another process adds before it is locked", test_file_of_another},
     {"a file whose descriptor isn't copied", test_copied_descriptor},
     {"a file of whole lines, which isn't cut off", test_needless_truncation},
     {"a file whose last line can't be cut off", test_refused_truncation},
+    {"a file that can't be read to its end", test_unreadable_end},
     {"a call whose line is written after interruptions", test_interrupted_write},
     {"a file that is opened and cut off after interruptions", test_interrupted_start},
     {"a call whose line is written in parts", test_short_writes},
     {"a call whose line can't be written, where no error says so", test_empty_writes},
     {"a call whose line can't be written, where no signal says so", test_errors_without_signals},
     {"a signal of a write that is taken after an interruption", test_interrupted_wait},
+    {"a signal of a write that the application has blocked stays pending", test_blocked_signal},
+    {"a file on another device that has the file's descriptor and its number", test_other_device},
     {"a line that is written in part, and a part that can't be cut off", test_parts},
     {"a file whose status can't be read, and one that can't be locked", test_faults_of_file},
     {"a call behind the library's end writes nothing to another file", test_call_behind_end},
-    {"a call under the application's lock keeps the file at the library's end",
-     test_end_beside_call},
+    {"a call that another thread is in keeps the file at the library's end", test_end_beside_call},
 };
 
 /* The module's lines on standard error are for nobody here; those of the checks are written. */

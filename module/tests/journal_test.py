@@ -50,16 +50,20 @@ HEADER = """\
 limits largest
 """
 
-# The first bytes of splitmix64 from the state 7. Runs with a seed may be kept as cases, so a seed's
-# bytes stay the same from version to version.
+# The first bytes of splitmix64 from the state 7, and from the largest one. Runs with a seed may be
+# kept as cases, so a seed's bytes stay the same from version to version.
 RANDOM_OF_SEVEN = ("d70d3259e4e1cb631c663cf4d73c4c04022ab1ba804098e6"
                    "cb293e6770eb3a95da211e6a663bd373")
+RANDOM_OF_LARGEST = ("202c651b7771d9e4c982f6db67f89fe9e98172b24cf82f38"
+                     "d282a9cb6cb31d6dae6980572e47a0b4")
 
 # How many times the memory of a worker is measured at most, until it is as it must be.
 TRIES_OF_MEMORY = 3
 
-# The most seconds in which a process ends by itself while its C_Initialize waits in another thread.
+# The most seconds in which a process ends by itself while its C_Initialize waits in another thread,
+# and in which the child of a fork begins anew.
 SECONDS_OF_EXIT = 20
+SECONDS_OF_CHILD = 60
 
 # How many of the longest lines are read, and the most seconds of processor time that this takes:
 # far more than it does on a slow machine.
@@ -373,9 +377,8 @@ class Tests:
             code = self.module.initialize(**variables)
         return code, read(self.file("errors")).decode()
 
-    def initialize_without_errors(self, closed=(0, 2), **variables):
-        """The code of C_Initialize where descriptor 2 is closed, and others, which a file gets
-        first."""
+    def initialize_with_closed(self, closed, **variables):
+        """The code of C_Initialize where these descriptors are closed, which a file gets first."""
         sys.stdout.flush()
         sys.stderr.flush()
         kept = [(number, os.dup(number)) for number in closed]
@@ -479,6 +482,12 @@ class Tests:
         os.umask(before)
         self.end()
         self.checks.equal(stat.S_IMODE(os.stat(path).st_mode), 0o600, "the file's mode")
+        # One that is there keeps its rights.
+        shutil.copy(self.journal_of_some_calls(), path)
+        os.chmod(path, 0o664)
+        self.begin(TOKEN=path)
+        self.end()
+        self.checks.equal(stat.S_IMODE(os.stat(path).st_mode), 0o664, "the mode of one before")
 
     def test_going_on(self):
         """A token goes on from a file, with its label, its PINs and its objects."""
@@ -600,6 +609,35 @@ class Tests:
         self.checks.equal(numbers[1:], [it % 8 + 1 for it in numbers[:-1]], "the callers' numbers")
         self.checks.equal(others, [numbers] * 2, "the numbers of each thread's other calls")
         support.audit(self.checks, self.ck_cases, path)
+
+    def callers_of_child(self, path):
+        """A child of a fork, in which two threads call: the callers' numbers in its file."""
+        self.module.initialize(JOURNAL=path)
+        self.module.say("1 GetTokenInfo")
+        thread = threading.Thread(target=self.module.say, args=["1 GetTokenInfo"])
+        thread.start()
+        thread.join()
+        self.module.finalize()
+        return [line.split(" ")[0] for line in read(path).decode().split("\n") if " -> " in line]
+
+    def test_callers_of_child(self):
+        """A child of a fork numbers its threads from 1 anew, whichever thread forks."""
+        seen = []
+
+        def fork_child(name):
+            self.module.say("1 GetTokenInfo")
+            path = self.file(name)
+            with self.child_of_fork(lambda: self.callers_of_child(path)) as numbers:
+                seen.append(numbers)
+
+        self.begin()
+        # Two threads that call one after the other have different numbers.
+        for name in ["one.cases", "other.cases"]:
+            thread = threading.Thread(target=fork_child, args=[name])
+            thread.start()
+            thread.join()
+        self.end()
+        self.checks.equal(seen, [["1", "2"]] * 2, "the callers' numbers in the children's files")
 
     def check_longest_comment(self, variable):
         """Of a script, or of the token's file: the longest comment, and one that is too long."""
@@ -742,6 +780,16 @@ class Tests:
                 self.checks.equal(errors, f"ospreyrack: OSPREYRACK_SCRIPT: {script}: the file "
                                   "can't be opened: No such file or directory\n", "the errors")
                 self.checks.check(not os.path.exists(path), f"{path} isn't made")
+        # Nor is a token's file changed for which the script wouldn't be answered.
+        path, content = self.file("with_absent.cases"), read(self.journal_of_some_calls())
+        write(path, content)
+        code, errors = self.initialize(SCRIPT=script, TOKEN=path)
+        self.checks.equal(code, GENERAL_ERROR, "C_Initialize with a token's file that is there")
+        self.checks.equal(errors, f"ospreyrack: OSPREYRACK_SCRIPT: {script}: the file can't be "
+                          "opened: No such file or directory\n", "the errors")
+        self.checks.equal(read(path), content, "the token's file")
+        if code == 0:
+            self.end()
         script += "/long" * ((4000 - len(script)) // 5)
         self.checks.equal(self.initialize(SCRIPT=script), (
             GENERAL_ERROR, f"ospreyrack: OSPREYRACK_SCRIPT: {script}: the file can't be opened: No "
@@ -798,6 +846,25 @@ class Tests:
                               f"whether a dropped line is told of, at {length} bytes")
         support.audit(self.checks, self.ck_cases, path)
 
+    def test_beginning(self):
+        """A file that is a beginning of the header is a new one, and no other comment is."""
+        path, header = self.file("beginning.cases"), HEADER.encode()
+        for content in [b"#", b"# The", header[:-1]]:
+            write(path, content)
+            self.begin(TOKEN=path)
+            self.end()
+            self.checks.equal(read(path), header, f"the file that was {content}")
+        for content in [b"##", b"#\n", b"# The\n", b"# Their", header[:-2] + b"x",
+                        header[:-1].upper()]:
+            write(path, content)
+            code, errors = self.initialize(TOKEN=path)
+            self.checks.equal(code, GENERAL_ERROR, f"C_Initialize with {content}")
+            self.checks.equal(errors, f"ospreyrack: OSPREYRACK_TOKEN: {path}: this is no journal: "
+                              "it has neither limits nor a reply\n", "the errors")
+            self.checks.equal(read(path), content, "the file")
+            if code == 0:
+                self.end()
+
     def test_changed(self):
         """Each reply, changed: refused with its line, and the file stays."""
         lines = read(self.journal_of_some_calls()).split(b"\n")
@@ -819,7 +886,7 @@ class Tests:
                 self.checks.check(errors.startswith(start) and errors.count("\n") == 1, errors)
                 self.checks.equal(read(path), content, "the file")
         for closed in [(0, 2), (2,), (1, 2), (0, 1, 2)]:
-            self.checks.equal(self.initialize_without_errors(closed, TOKEN=path), GENERAL_ERROR,
+            self.checks.equal(self.initialize_with_closed(closed, TOKEN=path), GENERAL_ERROR,
                               f"C_Initialize where {closed} are closed")
             self.checks.equal(read(path), content, f"the file, where {closed} are closed")
         self.begin(TOKEN=self.journal_of_some_calls())
@@ -1057,7 +1124,8 @@ class Tests:
         """A program that is executed has no descriptor of the file."""
         path = self.file("executed.cases")
         for initialize in [lambda: self.initialize(TOKEN=path)[0],
-                           lambda: self.initialize_without_errors(TOKEN=path)]:
+                           lambda: self.initialize_with_closed((0, 2), TOKEN=path),
+                           lambda: self.initialize_with_closed((1,), TOKEN=path)]:
             self.checks.equal(initialize(), 0, "C_Initialize")
             self.checks.equal(open_files().count(path), 1, "this process's descriptors of the file")
             self.checks.equal(files_of_program().count(path), 0, "the program's")
@@ -1144,6 +1212,30 @@ class Tests:
         other.join()
         self.checks.equal(said, ["0 4 64 0 0"], "its call")
         self.checks.check(taken < 0.1, f"what it takes meanwhile: {taken}")
+        self.end()
+
+    def begin_as_child(self):
+        """A child of a fork: what it sees without initialization, and with it. The alarm ends it
+        where it waits."""
+        signal.alarm(SECONDS_OF_CHILD)
+        seen = [self.module.say("1 GetTokenInfo"), str(self.module.initialize()),
+                self.module.say("1 GetTokenInfo"), str(self.module.finalize())]
+        signal.alarm(0)
+        return seen
+
+    def test_fork_in_initialize(self):
+        """A child of a fork in the middle of another thread's C_Initialize begins anew."""
+        path = self.file("forked_fifo")
+        os.mkfifo(path)
+        thread = threading.Thread(target=self.module.initialize, kwargs={"SCRIPT": path})
+        thread.start()
+        with open(path, "wb"):
+            self.wait_for(lambda: open_files().count(path) == 2, "descriptors of the script")
+            with self.child_of_fork(self.begin_as_child) as seen:
+                self.checks.equal(seen, [f"{NOT_INITIALIZED:x}", "0", "0 4 64 0 0", "0"],
+                                  "what the child saw")
+        thread.join()
+        self.checks.equal(self.module.say("1 GetTokenInfo"), "0 4 64 0 0", "a call of the parent")
         self.end()
 
     def test_unload(self):
@@ -1453,6 +1545,10 @@ class Tests:
         seven, ten, eleven = (self.random_of_start(SEED=seed) for seed in ["7", "010", "0000011"])
         self.checks.equal(seven.hex(), RANDOM_OF_SEVEN, "the random bytes of seed 7")
         self.checks.equal(self.random_of_start(13, SEED=7), seven[:13], "the first 13 of them")
+        self.checks.equal(self.random_of_start(SEED=2**64 - 1).hex(), RANDOM_OF_LARGEST,
+                          "the random bytes of the largest seed")
+        self.checks.check(self.random_of_start(SEED=2**32 + 7) != seven,
+                          "a seed whose lower 32 bits are 7 makes others")
         self.checks.equal(ten, self.random_of_start(SEED=10), "the random bytes of seed 010")
         self.checks.equal(eleven, self.random_of_start(SEED=11), "the random bytes of seed 0000011")
         self.checks.equal(self.random_of_start(SEED=0), self.random_of_start(SEED=0), "those of 0")
@@ -1560,14 +1656,15 @@ class Tests:
 TESTS = [Tests.test_file, Tests.test_counted_journals, Tests.test_mode, Tests.test_going_on,
          Tests.test_new_label, Tests.test_no_label, Tests.test_script,
          Tests.test_script_and_journal, Tests.test_only_reply, Tests.test_calls_beside,
-         Tests.test_callers, Tests.test_bad_pointers, Tests.test_quiet, Tests.test_cut_short,
-         Tests.test_longest_line, Tests.test_line_without_end, Tests.test_absent_script,
-         Tests.test_failed_start, Tests.test_bad_variable_and_file, Tests.test_cut_off,
-         Tests.test_changed, Tests.test_lacking_reply, Tests.test_two_processes,
-         Tests.test_second_run, Tests.test_fork, Tests.test_fork_that_stays,
-         Tests.test_unseen_child, Tests.test_closed_file, Tests.test_lost_file,
-         Tests.test_nameless_file, Tests.test_terminal, Tests.test_exec, Tests.test_exec_in_script,
-         Tests.test_signals_in_script, Tests.test_exit, Tests.test_waiting, Tests.test_unload,
+         Tests.test_callers, Tests.test_callers_of_child, Tests.test_bad_pointers, Tests.test_quiet,
+         Tests.test_cut_short, Tests.test_longest_line, Tests.test_line_without_end,
+         Tests.test_absent_script, Tests.test_failed_start, Tests.test_bad_variable_and_file,
+         Tests.test_cut_off, Tests.test_beginning, Tests.test_changed, Tests.test_lacking_reply,
+         Tests.test_two_processes, Tests.test_second_run, Tests.test_fork,
+         Tests.test_fork_that_stays, Tests.test_unseen_child, Tests.test_closed_file,
+         Tests.test_lost_file, Tests.test_nameless_file, Tests.test_terminal, Tests.test_exec,
+         Tests.test_exec_in_script, Tests.test_signals_in_script, Tests.test_exit,
+         Tests.test_waiting, Tests.test_fork_in_initialize, Tests.test_unload,
          Tests.test_unload_with_functions, Tests.test_rights, Tests.test_kills, Tests.test_full,
          Tests.test_filling, Tests.test_filling_in_update, Tests.test_filling_in_search,
          Tests.test_pieces_of_search, Tests.test_time_of_lines, Tests.test_seed,
