@@ -159,7 +159,7 @@ fn show_is_front<K: TokenId, W: Wait>(rt: &W, other: &Front<K>, front: &Front<K>
 }
 
 impl<K: TokenId, T: JournaledToken, R: Wait + Drop> Locked<K, T, R> {
-    ghost use Rattle.std.specs.Prelude.{◌≡◌, [], IfOk, IfSome, OnOk, OnErr};
+    ghost use Rattle.std.specs.Prelude.{◌≡◌, [], All, IfOk, IfSome, OnOk, OnErr};
     ghost use Rattle.std.specs.Option.{option_copied};
     ghost use Rattle.left_right.specs.Handles.{published, pending};
     ghost use Rattle.ck_journal.specs.Callers.{AreCallers};
@@ -200,6 +200,16 @@ impl<K: TokenId, T: JournaledToken, R: Wait + Drop> Locked<K, T, R> {
     {
         caller.show_settled(&mut self.books);
         show_is_front(rt, caller.known().front(), self.known.front());
+    }
+
+    /// Takes callers back, one after the other.
+    pub(crate) fn settle_all<W: Wait>(&mut self, rt: &W, callers: Vec<Caller<K>>)
+        ensures same { self.new ≡ self.old }
+        ensures settled { All (IsSettled self.old.history) callers.items }
+    {
+        for caller in callers {
+            self.settle(rt, caller);
+        }
     }
 
     /// The token without its lock. It may wait for those who still read the board.

@@ -241,9 +241,7 @@ impl<K: TokenId, T: JournaledToken, R: Wait + Drop> SharedToken<K, T, R> {
             return Err((self, callers));
         }
         let mut locked = self.lock.into_inner();
-        for caller in callers {
-            locked.settle(rt, caller);
-        }
+        locked.settle_all(rt, callers);
         Ok(locked.into_token())
     }
 
