@@ -87,10 +87,16 @@ fn make_by_trait<T: JournaledToken>(
     refused: Call,
 ) -> anyhow::Result<()> {
     let updated = token.call(alloc, 1, update)?;
-    ensure!(updated.rv == Rv::Ok, "an update with reserved room is refused");
+    ensure!(
+        updated.rv == Rv::Ok,
+        "an update with reserved room is refused"
+    );
     let reply = token.call_after(alloc, 1, refused, None)?;
     let wanted = Rv::Error(RvError::SessionHandleInvalid);
-    ensure!(reply.rv == wanted, "a creation in no session has another code");
+    ensure!(
+        reply.rv == wanted,
+        "a creation in no session has another code"
+    );
     Ok(())
 }
 

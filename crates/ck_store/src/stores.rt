@@ -336,8 +336,7 @@ impl Store {
     {
         end_listed(&mut self.objects, &self.lists, ending);
         end_newest(&mut self.objects, self.unlisted, ending);
-        self.lists
-            .retain(|list| !ending.concerns(list));
+        self.lists.retain(|list| !ending.concerns(list));
         compact(&self.objects, &mut self.index);
     }
 }
