@@ -72,15 +72,15 @@ pub played_all : {K : Type 0} (calls : List (ℕ × Call)) (old new : Script K C
     → IsUnplayed calls old → AreMade old new → IsPlayedAll calls new
 played_all calls old new unplayed played started done =
     let p = (in_thread _ _ new.started started played).0 in
-    let all = all_answered new.outcome (length (vec_items new.replies))
+    let all = all_answered new.outcome (length (vec_items new.answers))
     (length (vec_items old.steps)) done p.made in (
       subst (λ n. HasEntriesOf calls n new.caller.last) (sym p.number) (record {
-        replies = vec_items new.replies;
+        replies = vec_items new.answers;
         own = p.own
-            ∙ ap (λ own. entries_after old.caller.number own (vec_items new.replies)
+            ∙ ap (λ own. entries_after old.caller.number own (vec_items new.answers)
             (entries_by old.caller.number old.caller.last)) unplayed.0
             ∙ ap (entries_after old.caller.number (calls_by old.caller.number calls)
-            (vec_items new.replies)) unplayed.1.0;
+            (vec_items new.answers)) unplayed.1.0;
         all = all ∙ ap length unplayed.0;
       }),
       subst (λ h. IsFront h new.caller.seen) unplayed.1.1 p.front,

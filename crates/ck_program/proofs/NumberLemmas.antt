@@ -32,8 +32,8 @@ one_moved f g moved longer a left rest b all before next pushed same =
 -- a script keeps the number of its caller
 same_number : {K : Type 0} (old new : Script K Call Reply) (started : Bool)
     → MatchBool started
-    (HasMadeCalls old.caller (vec_items old.steps) (vec_items new.replies) new.outcome new.caller
-    × (vec_items new.steps ≡ []) × KnowsItsLast (vec_items new.replies) old.caller new.caller)
+    (HasMadeCalls old.caller (vec_items old.steps) (vec_items new.answers) new.outcome new.caller
+    × (vec_items new.steps ≡ []) × KnowsItsLast (vec_items new.answers) old.caller new.caller)
     (IsUntouched old new)
     → new.caller.number ≡ old.caller.number
 same_number old new true played = played.0.number
