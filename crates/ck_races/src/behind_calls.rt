@@ -39,6 +39,14 @@ fn call_of(alloc: Global, number: u32) -> anyhow::Result<Call> {
 }
 
 impl<'a, K: TokenId, R: Runtime> Shared<'a, K, R> {
+    /// Another caller makes short calls.
+    fn make_calls_between(&self, other: &mut Caller<K>) -> anyhow::Result<()> {
+        for _ in 0..CALLS_BETWEEN {
+            self.make_call(other, Call::GetTokenInfo)?;
+        }
+        Ok(())
+    }
+
     /// A caller makes a call. Between the work on a message that it brings and the call, another
     /// caller makes some.
     fn call_behind(
@@ -49,9 +57,7 @@ impl<'a, K: TokenId, R: Runtime> Shared<'a, K, R> {
     ) -> anyhow::Result<()> {
         let alloc = self.rt.alloc();
         let message = self.token.take_in(self.rt, &call);
-        for _ in 0..CALLS_BETWEEN {
-            self.make_call(other, Call::GetTokenInfo)?;
-        }
+        self.make_calls_between(other)?;
         let reply = self
             .token
             .call_after(self.rt, alloc, caller, call, message)?;
