@@ -239,11 +239,11 @@ PAGES = [
     (rules.clients_of_module, "module.md", "run eleven real", "run ten real"),
     (rules.clients_of_module, "module.md", "call from 8, 16 and 32", "call from 8, 16 and 64"),
     (rules.lines_of_answers, "proofs.md", "some 1,300 lines", "some 1,200 lines"),
-    (rules.links, "laws.md", "^# ", "# New "),
+    (rules.links, "laws.md", "^## Wrong definitions", "## Other definitions"),
     (rules.links, "module.md", "^## What is proved", "## What was proved"),
-    (rules.links, "rust.md", r"[(]threads[.]md", "(thread.md"),
+    (rules.links, "threads.md", r"[(]proofs[.]md#", "(proof.md#"),
     (rules.toolchain, "../README.md", "`logic dac", "`logic dad"),
-    (rules.toolchain, "../README.md", "`rattle-kit-", "`rattle-kit "),
+    (rules.toolchain, "../README.md", r"`rattle-kit-(\w+)` or `rattle-kit-", r"`kit-\1` or `kit-"),
 ]
 
 # Changes of sources in the folder crates with which such a page no longer agrees.
@@ -720,13 +720,15 @@ def changed_pages(checks):
     with tempfile.TemporaryDirectory() as folder:
         pages = shutil.copytree(rules.DOCS, os.path.join(folder, "docs"))
         shutil.copy(os.path.join(ROOT, "README.md"), folder)
-        with mock.patch.object(rules, "DOCS", pages):
-            check_noticed(checks, pages, PAGES)
         shutil.copytree(os.path.join(ROOT, "module"), os.path.join(folder, "module"),
                         ignore=shutil.ignore_patterns("out", "tests"))
         shutil.copytree(os.path.join(ROOT, "tests"), os.path.join(folder, "tests"))
         crates = shutil.copytree(rules.CRATES, os.path.join(folder, "crates"),
                                  ignore=shutil.ignore_patterns("out", "must-fail", "proofs"))
+        with mock.patch.object(rules, "DOCS", pages):
+            words = words_of(rules, rules.links, rules.PROGRAM)
+            checks.expect(passes(words), f"links of copied pages: {words}")
+            check_noticed(checks, pages, PAGES)
         with mock.patch.object(rules, "CRATES", crates):
             check_noticed(checks, crates, SOURCES)
     checks.end("changes of pages, and of sources with which they agree")
