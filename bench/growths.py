@@ -36,10 +36,10 @@ And only where a growth of a thread is refused does the program say that one isn
 Each run without a refused growth must have growths, and in all some must be refused and something
 made again: else the library that refuses them isn't loaded.
 
-With the argument `short` every fourth growth of a case and of a script is refused, except of
-long_journal.cases, and every second one of a race, so that it takes less time. Which one is the
-first follows from the name of the case, so that it isn't the same growths of all cases that are
-passed over.
+With the argument `short` every fourth growth of a case and of a script is refused, and every second
+one of a race, so that it takes less time; but each one of long_journal.cases and of the cases of
+searches, keys, digests and signatures. Which one is the first follows from the name of the case, so
+that it isn't the same growths of all cases that are passed over.
 
 The programs are crates/ck_cases/out/ck_cases, crates/ck_run/out/ck_run and
 crates/ck_races/out/ck_races, built by `rt run` in their folders. This needs Linux with the GNU C
@@ -63,8 +63,10 @@ RACES = os.path.join(CRATES, "ck_races", "out", "ck_races")
 RACES_DATA = os.path.join(CRATES, "ck_races", "data", "callers.races")
 DATA = os.path.join(CRATES, "ck_cases", "data", "*.cases")
 LONG = os.path.join(CRATES, "ck_cases", "data", "many_objects.cases")
-# A call of it makes the journal grow that has entries already. All of its growths are refused.
-GROWING = os.path.join(CRATES, "ck_cases", "data", "long_journal.cases")
+# All growths of these are refused: of one of which a call makes the journal grow that has entries
+# already, and of those with most kinds of calls.
+WHOLE = [os.path.join(CRATES, "ck_cases", "data", f"{name}.cases") for name in (
+    "long_journal", "searches", "key_sequences", "digests", "signatures")]
 LARGEST = "limits largest"
 BAD_LINE = " -> bad script: "
 # A thread that gets no memory isn't started.
@@ -77,10 +79,10 @@ MEMORY_ERRORS = (
     b"ck_cases: out of memory\n",
 )
 
-# With `short` some 26,000 growths are refused. After some 4,600 of them something is made again.
+# With `short` some 41,000 growths are refused. After some 6,600 of them something is made again.
 # These are far fewer where cases, races or growths are passed over.
-LEAST_OF_SHORT = 20_000
-LEAST_MADE_AGAIN = 2_000
+LEAST_OF_SHORT = 30_000
+LEAST_MADE_AGAIN = 4_000
 
 # Calls that create objects, each with bytes that a copy takes memory for.
 CREATED = 50
@@ -426,7 +428,7 @@ def main(paths, races, is_short=False):
         library = build(folder)
         checks = list(checks_of_races(library, races, race_step))
         for path in paths:
-            checks += checks_of_file(library, path, 1 if path == GROWING else case_step)
+            checks += checks_of_file(library, path, 1 if path in WHOLE else case_step)
         if paths:
             checks += [*checks_of_counts(library), *checks_of_scripts(library)]
         results = [made.result() for made in [pool.submit(*check) for check in checks]]
