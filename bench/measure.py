@@ -40,20 +40,16 @@ FIGURES_PROGRAM = os.path.join(CRATES, "ck_bench", "out", "ck_bench")
 # How many times the program of the last figures is run; each time it makes several tries.
 FIGURE_RUNS = 5
 
-# The most nanoseconds more that a call may take where its one object lies in no cache, as among
-# 100,000 objects it does: memory takes that long, whatever the call does.
-IN_NO_CACHE = 500
-
 # What is wanted of calls among 1,000 objects and among 100,000: the most nanoseconds, and the most
-# times as many among the latter, or, where that is more, the most nanoseconds more.
+# times as many among the latter.
 CALLS_AMONG = [
-    ("create", 1_000, 2, 0),
-    ("get label", 1_000, 2, IN_NO_CACHE),
-    ("change", 1_000, 2, IN_NO_CACHE),
-    ("destroy", 1_000, 2, 0),
-    ("destroy all, each", 1_000, 2, 0),
-    ("open and close (both together)", 1_000, 1.5, 0),
-    ("login and logout (both together)", 1_000, 1.5, 0),
+    ("create", 1_000, 2),
+    ("get label", 1_000, 2),
+    ("change", 1_000, 2),
+    ("destroy", 1_000, 2),
+    ("destroy all, each", 1_000, 2),
+    ("open and close (both together)", 1_000, 1.5),
+    ("login and logout (both together)", 1_000, 1.5),
 ]
 
 # The most nanoseconds that a search by a label may take for each object, by how many there are.
@@ -174,13 +170,12 @@ def is_as_wanted(text, wanted, is_met):
     return is_met
 
 
-def is_call_met(few, many, what, most, most_growth, most_more):
+def is_call_met(few, many, what, most, most_growth):
     growth = many / few
     text = (f"{what}: {few:.0f} ns among 1,000 objects, {many:.0f} among 100,000, "
             f"{growth:.2f} times as many")
-    is_met = many <= most and (growth <= most_growth or many - few <= most_more)
-    beside = f", or {most_more} more" if most_more else ""
-    return is_as_wanted(text, f"at most {most:,} and {most_growth} times{beside}", is_met)
+    is_met = many <= most and growth <= most_growth
+    return is_as_wanted(text, f"at most {most:,} and {most_growth} times", is_met)
 
 
 def check_crowd(program, text):
@@ -202,8 +197,8 @@ def times_among(program, objects):
 
 def met_among_objects(program):
     times = {objects: times_among(program, objects) for objects in (1_000, 50_000, 100_000)}
-    for what, *bounds in CALLS_AMONG:
-        yield is_call_met(times[1_000][what], times[100_000][what], what, *bounds)
+    for what, most, most_growth in CALLS_AMONG:
+        yield is_call_met(times[1_000][what], times[100_000][what], what, most, most_growth)
     for objects, most in SEARCH_AMONG.items():
         each = times[objects][SEARCH] / objects
         text = f"{SEARCH} among {objects:,} objects: {each:.1f} ns each"
