@@ -1,7 +1,7 @@
 #!/usr/bin/env python3
 """Writes contracts.md, the contracts of all public functions as they stand in crates/*/src, from
 the sources; or with the word `check` says whether the page is what it would write, and whether the
-example of ck_token is the same wherever it stands."""
+examples are the same wherever they stand."""
 import collections
 import itertools
 import os
@@ -23,10 +23,15 @@ clauses name; they stand in the `specs` folders.
 `python3 docs/contracts.py` writes this page, and `./check` looks whether it is as the sources are.
 """
 
-# The example of ck_token: the file in which it is run by a test, and those that show it, each with
-# what stands before its lines there.
-EXAMPLE = ("crates/ck_run/src/tests/signing.rt", "")
-SHOWN = [("crates/ck_token/src/lib.rt", "//! "), ("docs/rust.md", "    ")]
+# Examples, each by how its first line begins and by the file in which it is run: the example of
+# ck_token by a test, that of threads as a program. Then come the files that show it, with what
+# stands before its lines there.
+EXAMPLES = [
+    ("fn sign(", "crates/ck_run/src/tests/signing.rt",
+     [("crates/ck_token/src/lib.rt", "//! "), ("docs/rust.md", "    ")]),
+    ("impl<R: Wait + AllocGlobal> CallerWork<R> for ThreeSessions ",
+     "crates/ck_threads/src/main.rt", [("docs/threads.md", "    ")]),
+]
 
 FUNCTION = re.compile(
     r'^( *)(pub(?:\([a-z]+\))? )?(?:const )?(?:unsafe )?(?:extern "C" )?fn (\w+)')
@@ -155,32 +160,34 @@ def page():
     return "\n".join(text)
 
 
-def example_in(path, before):
-    """The lines of the function `sign` in a file; none where it isn't there whole."""
+def example_in(first, path, before=""):
+    """The lines of an example in a file; none where it isn't there whole. An empty line may stand
+    there without what is before the others."""
     with open(os.path.join(CRATES, "..", path)) as file:
-        lines = [line[len(before):] for line in file.read().split("\n") if line.startswith(before)]
-    example = list(itertools.dropwhile(lambda line: not line.startswith("fn sign("), lines))
+        lines = [line[len(before):] for line in file.read().split("\n")
+                 if line.startswith(before) or not line]
+    example = list(itertools.dropwhile(lambda line: not line.startswith(first), lines))
     return example[:example.index("}") + 1] if "}" in example else []
 
 
 def difference(shown, run):
     """Where the example that is shown isn't the one that is run, or None."""
     if not shown or not run:
-        return "the function `sign` isn't there, or not in the test"
+        return "it isn't there, or not where it is run"
     for number, (here, there) in enumerate(itertools.zip_longest(shown, run, fillvalue=""), 1):
         if here != there:
-            return f"line {number} of it is `{here.strip()}`, and in the test `{there.strip()}`"
+            return f"line {number} of it is `{here.strip()}`, and where it is run `{there.strip()}`"
     return None
 
 
 def check_examples():
-    """Whether the example is the same wherever it stands. Says where it isn't."""
-    run = example_in(*EXAMPLE)
-    found = [(path, difference(example_in(path, before), run)) for path, before in SHOWN]
-    for path, what in found:
+    """Whether each example is the same wherever it stands. Says where it isn't."""
+    found = [(path, source, difference(example_in(first, path, before), example_in(first, source)))
+             for first, source, shown in EXAMPLES for path, before in shown]
+    for path, source, what in found:
         print(f"{path}: the example is " + (
-            f"not that of {EXAMPLE[0]}: {what}" if what else "as it is run"))
-    return not any(what for _, what in found)
+            f"not that of {source}: {what}" if what else "as it is run"))
+    return not any(what for _, _, what in found)
 
 
 def check_page():

@@ -9,7 +9,7 @@ it names the checks by their kinds, so that a reader sees which are gone: tests 
 the scripts and of the module, crates, comparisons in constant time, types that can be shown, and
 the lines by which `check` and module/tests/run start them, with their loops and the packages that
 `check` installs. Of each file of a crate it has how many clauses its functions have, private ones
-too, so that none is dropped unseen.
+too, and a digest of them, so that none is dropped or changed unseen.
 
 With the word `check`, or none, this compares the list with what is there, and looks whether the
 edits fit the sources and the files are as they are named elsewhere; the status is 1 where something
@@ -73,7 +73,10 @@ WORDS = re.compile(r"(\w+)\+?=\(([a-z][^)]*)\)")
 LABEL = re.compile(r"(?:requires|ensures) (\w+) \{")
 GHOST = re.compile(r"    ghost (\w+)(?: =|:)")
 # How a clause begins, or a ghost item, wherever it stands.
-CLAUSE = re.compile(r"^\s*(requires|ensures|ghost)\b\*?(?: \w+)?(?: \{| =|:)", re.MULTILINE)
+CLAUSE = re.compile(
+    r"^\s*(?:pub )?(requires|ensures|ghost)\b\*?(?: \w+)?(?: \{| =|:)", re.MULTILINE)
+# The names of definitions that clauses cite.
+CITED = re.compile(r"^\s*(?:pub )?ghost use [^;]*;", re.MULTILINE)
 
 # The crates whose checks are listed: programs that test or measure the others, and ck_run, which
 # has the tests of the libraries.
@@ -181,15 +184,29 @@ def shown_types():
     return derived + by_hand
 
 
-def counts_of_clauses():
-    """How many clauses, and ghost items of types, each file has."""
-    counts = []
+def braced(text):
+    """The front of a text up to the end of its first braces."""
+    depth = 0
+    for at, letter in enumerate(text):
+        depth += (letter == "{") - (letter == "}")
+        if letter == "}" and depth == 0:
+            return text[:at + 1]
+    return text
+
+
+def clauses_in_files():
+    """How many clauses, and ghost items of types, each file has, and the front of a digest of them
+    and of the names of definitions that they cite."""
+    listed = []
     for path in sources():
-        found = collections.Counter(CLAUSE.findall(code_of(path)))
+        code = code_of(path)
+        found = collections.Counter(CLAUSE.findall(code))
         if found:
-            counts.append(f"{path} requires {found['requires']}, ensures {found['ensures']}, "
-                          f"ghost items {found['ghost']}")
-    return counts
+            texts = [braced(code[it.start():]) for it in CLAUSE.finditer(code)]
+            texts = "".join(" ".join(it.split()) + "\n" for it in texts + CITED.findall(code))
+            listed.append(f"{path} requires {found['requires']}, ensures {found['ensures']}, "
+                          f"ghost items {found['ghost']} {digest_of(texts.encode())}")
+    return listed
 
 
 def texts_of_tests():
@@ -199,10 +216,15 @@ def texts_of_tests():
     return sorted(paths.union(*map(files, OTHER_TESTS)))
 
 
+def libraries_of():
+    """What crates.txt names of each crate, in its order: the crates and libraries that it uses."""
+    lines = [line.split(":") for line in text_of("crates.txt").split("\n") if ":" in line]
+    return {crate.split()[0]: used.split() for crate, used in lines}
+
+
 def crates():
     """The crates that crates.txt names, in its order."""
-    return [line.split(":")[0].split()[0] for line in text_of("crates.txt").split("\n")
-            if ":" in line]
+    return [*libraries_of()]
 
 
 def program_files():
@@ -310,7 +332,7 @@ def inventory():
         "edit that must fail": with_digests(edits()),
         "test of a crate": crate_tests(),
         "module of tests": test_modules(),
-        "clauses": counts_of_clauses(),
+        "clauses": clauses_in_files(),
         "text of tests": with_digests(texts_of_tests()),
         "crate": crates(),
         "comparison in constant time": comparisons(),
@@ -399,24 +421,30 @@ def labels_of_all():
     return labels
 
 
+def clauses_named(name, crate):
+    """The clauses of this name: of the crate, or of one that it uses, which it must show."""
+    used = [it for it in libraries_of().get(crate, []) if it in crates()]
+    return [it for named in (crate, *used) for it in clauses_of(named) if it.name == name]
+
+
 def labels_of(name, crate):
     """The names of the clauses of this name, with those of the trait that the function is of."""
-    own = [it for it in clauses_of(crate) if it.name == name]
+    own = clauses_named(name, crate)
     of_traits = [labels_of_all()[it.of_trait] for it in own if it.of_trait]
     return set().union(*(it.labels for it in own), *of_traits)
 
 
 def clause_faults(edit):
-    """The line `clause:` names a function of the crate, or a type with an invariant, and maybe a
-    clause that it has."""
+    """The line `clause:` names a function of the crate or of one that it uses, or a type with an
+    invariant, and maybe a clause that it has."""
     lines = [line.split(" ") for line in text_of(edit).split("\n") if line.startswith("clause:")]
     if len(lines) != 1 or len(lines[0]) not in (2, 3):
         yield f"{edit} has not one line clause: with one name or two"
         return
     _, name, *label = lines[0]
     crate = edit.split("/")[1]
-    if name not in {it.name for it in clauses_of(crate)}:
-        yield f"{edit}: the crate has no function, and no type with an invariant, {name}"
+    if not clauses_named(name, crate):
+        yield f"{edit}: there is no function, and no type with an invariant, {name}"
     elif not labels_of(name, crate).issuperset(label):
         yield f"{edit}: {name} has no clause {label[0]}"
 

@@ -48,8 +48,8 @@ FEW_CALLS = 1_000
 # test only: callers in threads, a line that fills the longest one, a long parameter, a reply with
 # many handles or many answers, many calls, a packet, and memory.
 NO_ROOM = '{ echo "ck_run: out of memory" >&2; exit 3; }'
-WITH_INPUT = ('right=$1; input=$(mktemp); trap \'rm "$input"\' EXIT; cat > "$input"; '
-              f'%s || {NO_ROOM}; "$right" < "$input"')
+WITH_INPUT = ('right=$1; shift; input=$(mktemp); trap \'rm "$input"\' EXIT; cat > "$input"; '
+              f'%s || {NO_ROOM}; "$right" "$@" < "$input"')
 WRONG_FOR_ONE = [
     *((program.callers, f'case "$*" in *--callers*{count}) exit 3;; esac; {RIGHT}')
       for count in (5, 6, 7)),
@@ -60,8 +60,12 @@ WRONG_FOR_ONE = [
     (program.long_history, f'head -n {5 * FEW_CALLS} | "$1"'),
     (program.packets, 'right=$1; shift; dd bs=64 status=none | "$right" "$@"'),
     (program.single_writes, 'right=$1; shift; "$right" "$@" | dd bs=16 status=none'),
+    (program.single_errors, 'right=$1; shift; told=$(mktemp); trap \'rm "$told"\' EXIT; '
+     '"$right" "$@" 2> "$told"; status=$?; dd bs=16 status=none < "$told" >&2; exit $status'),
     (program.sessions_with_objects, WITH_INPUT % '! grep -q "^1 CreateObject 64 " "$input"'),
     (program.memory, f'ulimit -v {program.ROOM_OF_CREATED // 1_536}; {RIGHT}'),
+    *((program.ended, WITH_INPUT % f'! grep -q "^{call}" "$input"')
+      for call in ("1 DestroyObject 1 201", "1 FindObjectsFinal 1")),
 ]
 
 # The tests of each program, with the class that keeps what comes of them.
@@ -91,14 +95,16 @@ TIMES_OF_DIGESTS = [((3, 4), True), ((3, 2), True), ((3, 4.1), False)]
 
 # Tests in which a right program writes nothing there, so that they pass on one that never does.
 SILENT = {
-    "nothing on standard output": [program.readers, races.each_wrong_reply, races.wrong_in_parts,
-                                   races.bad_lines, races.bad_files],
+    "nothing on standard output": [program.readers, program.single_errors, races.each_wrong_reply,
+                                   races.wrong_in_parts, races.bad_lines, races.bad_files],
     "nothing on standard error": [program.dialogue, program.long_lists, program.long_replies,
                                   program.long_history, program.packets, program.side_by_side,
-                                  program.many_changes, program.memory, program.single_writes,
+                                  program.many_changes, program.memory, program.ended,
+                                  program.single_writes,
                                   program.sessions_with_objects, program.seldom_asleep,
                                   recorded_runs.reports,
                                   recorded_runs.limits_of_first_case, recorded_runs.long_texts,
+                                  recorded_runs.cuts,
                                   races.whole_file, races.set_orders, rules.attributes,
                                   rules.unknown_attributes, rules.values, rules.key_states,
                                   rules.mechanisms, rules.session_states, rules.pieces,
@@ -300,6 +306,10 @@ CHANGES = [
     ("another reply of a case", "crates/*/data/*.cases", " -> 0$", " -> 1"),
     ("another definition", "crates/*/specs/*.antt", "^pub record ", "pub  record "),
     ("a clause that is gone", "crates/ck_store/src/labels.rt", "^ *ensures .*\n", ""),
+    ("an invariant that says less", "crates/ck_store/src/stores.rt",
+     r"\n *× IsShort s[.]objects s[.]index[.]items };", " };"),
+    ("a clause of a private function that says less", "crates/ck_store/src/places.rt",
+     "IsShort objects.now index.new.items }", "IsIndex objects.now index.new.items }"),
     ("another reply of a race", "crates/*/data/*.races", " -> 0$", " -> 1"),
     ("another output", "crates/*/stdout", "1", "2"),
     ("a comparison that may end early", "crates/*/src/*.rt", "constant_time_eq\\(&", "same(&"),
@@ -335,7 +345,7 @@ WRONG_CHANGES = [
     ("a status that is always 0", "check", "^.*failed. -eq 0 .*\n", "true\n"),
 ]
 
-# Changes that the script of contracts must show: of its page, of a source, and of its example.
+# Changes that the script of contracts must show: of its page, of a source, and of its examples.
 CONTRACTS = "docs/contracts.py"
 CONTRACT_CHANGES = [
     ("docs/contracts.md", "^ *ensures .*\n", ""),
@@ -343,6 +353,8 @@ CONTRACT_CHANGES = [
     ("crates/ck_types/src/*.rt", "^ *ensures .*\n", ""),
     ("docs/rust.md", "^    fn sign.*\n", ""),
     ("crates/ck_token/src/lib.rt", "^//! +token[.]try_call.*\n", ""),
+    ("docs/threads.md", "^ +gate[.]call.*\n", ""),
+    ("crates/ck_threads/src/main.rt", "^ +gate[.]call.*\n", ""),
 ]
 
 # What is said of an edit with the clause `publish_board published`, and whether it is said of this
@@ -375,25 +387,30 @@ REFUSALS = [
 ]
 REFUSED = ("ck_shared", "refused_call_leaves_slot_pending")
 
-# The same of other edits: of the invariant of the type Token; of a function without a clause's
-# name, `end_searches`; of the function `value_in` of a trait; and of one that is listed as refused
-# elsewhere, at `invariant_of-self`.
-OF_TOKEN = ("ck_token", "a_wrong_pin_behind_another_callers_try_is_not_counted")
+# The same of other edits: of the invariant of the type Caller; of a function without a clause's
+# name, `end_searches`; of the function `value_in` of a trait; of a clause of another crate that
+# callers must show, `Parts::apply counted`; of one that is listed as refused elsewhere, at
+# `base_tries-same`; and of a law.
+OF_CALLER = ("ck_callers", "a_caller_keeps_its_reply_before")
 OF_SEARCHES = ("ck_sessions", "a_logout_leaves_the_search_of_the_first_session")
 OF_TRAIT = ("ck_script", "a_pin_is_its_text")
-OF_NEWS = ("ck_callers", "news_are_not_learnt")
+OF_PARTS = ("ck_token", "a_wrong_pin_behind_another_callers_try_is_not_counted")
+OF_CUT = ("ck_journal", "definition_of_cuts_unlocks_the_security_officer")
 OF_LAW = ("ck_journal", "definition_of_queries_gives_hidden_values")
 OTHER_REFUSALS = [
-    (OF_TOKEN, ": ./proofs/tokens/Token/cut/Answers.antt:1:1: error: `invariant_of-self`", True),
-    (OF_TOKEN, ": ./proofs/tokens/Token/cut/Answers.antt:1:1: error: `returns`", False),
-    (OF_TOKEN, ": ./proofs/x/Journal/cut/Answers.antt:1:1: error: `invariant_of-self`", False),
+    (OF_CALLER, ": ./proofs/callers/Caller/learn/Answers.antt:1:1: error: `invariant_of-self`",
+     True),
+    (OF_CALLER, ": ./proofs/callers/Caller/learn/Answers.antt:1:1: error: `returns`", False),
+    (OF_CALLER, ": ./proofs/x/News/learn/Answers.antt:1:1: error: `invariant_of-self`", False),
     (OF_SEARCHES, ": ./proofs/rows/end_searches/Answers.antt:1:1: error: `returns-then-a`", True),
     (OF_SEARCHES, ": ./proofs/rows/end_searches/Answers.antt:1:1: error: `cut-requires`", False),
     (OF_TRAIT, ": ./proofs/arguments/Pin/value_in/Answers.antt:1:1: error: `returns`", True),
     (OF_TRAIT, ": ./proofs/arguments/Other/value_in/Answers.antt:1:1: error: `returns`", False),
-    (OF_NEWS, ": ./proofs/callers/Caller/learn/Answers.antt:1:1: error: `invariant_of-self`", True),
-    (OF_NEWS, ": ./proofs/callers/Caller/learn/Answers.antt:1:1: error: `overflow_add`", False),
-    (OF_NEWS, " (only by a limit): note: src/callers.rt:1:1: (`invariant_of-self`)", False),
+    (OF_PARTS, ": note: src/tokens.rt:1:1: (`apply-requires-clause-counted`)", True),
+    (OF_PARTS, ": note: src/tokens.rt:1:1: (`apply-requires-clause-room`)", False),
+    (OF_CUT, ": ./proofs/CutBases.antt:1:1: error: `base_tries-same`", True),
+    (OF_CUT, ": ./proofs/CutBases.antt:1:1: error: `base-alike`", False),
+    (OF_CUT, " (only by a limit): ./proofs/CutBases.antt:1:1: error: `base_tries-same`", False),
     (OF_LAW, ": ./proofs/laws/hidden_values_are_not_given/Answers.antt:1:1: error: `a`", True),
     (OF_LAW, ": ./proofs/ValueLemmas.antt:1:1: error: `a_lemma`", True),
     (OF_LAW, ": ./proofs/Selections.antt:1:1: error: `a_lemma`", True),

@@ -37,6 +37,13 @@ LARGE_OBJECTS = b"".join([
     b"1 CopyObject 1 1 -\n" * 63])
 ROOM = 110_000_000
 
+# How many copies of one large object are made in that room, each destroyed before the next, and how
+# many searches, each of which finds this many objects and is ended. If they kept their memory, the
+# copies wouldn't fit, and neither would the searches.
+MANY_COPIES = 200
+MANY_SEARCHES = 2_000
+FOUND_BY_EACH = 20_000
+
 # What most systems give the stack of a thread, which lies in that room, too.
 STACK = 8 << 20
 
@@ -59,8 +66,24 @@ MANY = 2_200_000
 ONE_OF_MANY = b"1 GetTokenInfo\n"
 REPLY_TO_EACH = b"0 404 64 1 1\n"
 
-# So many items and queries of four bytes fill most of the longest line.
+# How many items or queries of four bytes, and how many labels of five bytes, fill most of the
+# longest line.
 MANY_ITEMS = 1_000_000
+MANY_LABELS = 800_000
+
+# Calls that take these equal labels as well (`%b`), and their replies. Those of the second list get
+# 10,000: one has another label behind them, one an attribute that a data object doesn't have.
+LABELLED = [
+    (b"CreateObject 1 0=0000000000000000%b", b"0 1"),
+    (b"CopyObject 1 1 3=61%b", b"0 2"),
+    (b"SetAttributeValue 1 2 3=61%b", b"0"),
+    (b"GenerateKey 1 350 2=00,161=0100000000000000%b 00", b"0 3"),
+]
+LABELLED_SHORT = [
+    (b"CreateObject 1 0=0000000000000000%b", b"0 1"),
+    (b"CreateObject 1 0=0000000000000000%b,3=62", b"d1"),
+    (b"CreateObject 1 0=0000000000000000%b,103=01", b"12"),
+]
 
 # How many bytes a parameter has that fills most of the longest line, how many objects one call
 # finds, and how many answers one call gives.
@@ -483,6 +506,14 @@ def long_lists(tests):
     queries = b"1 GetAttributeValue 1 1 " + b"3:?," * MANY_ITEMS + b"3:?\n"
     items = b"1 FindObjectsInit 1 " + b"3=-," * MANY_ITEMS + b"3=-\n"
     tests.check([], start + queries + items, b"0\n0 1\n82\n0\n", *PLAYED)
+    tests.check(["--callers", "1"], start + queries + items, b"entries 4\naudit ok\n", *PLAYED)
+    for rows, count in ((LABELLED, MANY_LABELS), (LABELLED_SHORT, 10_000)):
+        labels = b",3=61" * count
+        calls = b"".join(b"1 %b\n" % (call % labels) for call, _ in rows)
+        replies = b"".join(reply + b"\n" for _, reply in rows)
+        tests.check([], start + calls, b"0\n0 1\n" + replies, *PLAYED)
+        tests.check(["--callers", "1"], start + calls, b"entries %d\naudit ok\n" % (len(rows) + 2),
+                    *PLAYED)
     front = b"1 CreateObject 1 0=0000000000000000,11="
     value = b"61" * ((LONGEST_LINE - len(front)) // 2)
     calls = front + value + b"\n1 GetAttributeValue 1 1 11:?,11:%d\n" % (len(value) // 2)
@@ -554,6 +585,19 @@ def single_writes(tests):
     tests.end("replies are written whole")
 
 
+def single_errors(tests):
+    """What went wrong is told in one write on standard error."""
+    for words, script, wanted in (([], b"1 Nope\n", 1), (["--callers", "0"], b"", 2)):
+        ours, theirs = socket.socketpair(socket.AF_UNIX, socket.SOCK_SEQPACKET)
+        with ours, theirs:
+            output, _, status = tests.run(words, script, stderr=theirs)
+            theirs.close()
+            told = list(iter(lambda: ours.recv(PACKET), b""))
+        tests.expect((output, status, len(told)) == (b"", wanted, 1) and told[0][-1:] == b"\n",
+                     f"{words}: {output}, {status}, {told}")
+    tests.end("what went wrong is told in one write")
+
+
 def callers(tests):
     for words in (["--callers", "2"], ["--callers=2"], ["--callers", "8"]):
         tests.check(words, TWO_CALLERS, b"entries 8\naudit ok\n", *PLAYED)
@@ -589,6 +633,24 @@ def audits(tests):
     tests.check(words, LARGE_OBJECTS + b"1 CopyObject 1 1 -\n" * 100, b"", *NO_MEMORY, **short)
     tests.end("the journal of callers is audited, and an audit or a call finds no memory for many "
               "objects")
+
+
+def ended(tests):
+    """Copies that are destroyed and searches that are ended give their memory back."""
+    short = {"preexec_fn": leave_little_room}
+    start, replies = b"1 InitToken 31323334\n1 OpenSession 6\n", b"0\n0 1\n"
+    value = b"1 CreateObject 1 0=0000000000000000,11=" + b"61" * 1_000_000 + b"\n"
+    numbers = range(2, MANY_COPIES + 2)
+    copies = b"".join(b"1 CopyObject 1 1 -\n1 DestroyObject 1 %d\n" % it for it in numbers)
+    tests.check([], start + value + copies,
+                replies + b"0 1\n" + b"".join(b"0 %d\n0\n" % it for it in numbers), *PLAYED,
+                **short)
+    numbers = range(1, FOUND_BY_EACH + 1)
+    searches = b"1 FindObjectsInit 1 -\n1 FindObjectsFinal 1\n" * MANY_SEARCHES
+    tests.check([], start + b"1 CreateObject 1 0=0000000000000000\n" * len(numbers) + searches,
+                replies + b"".join(b"0 %d\n" % it for it in numbers) + b"0\n0\n" * MANY_SEARCHES,
+                *PLAYED, **short)
+    tests.end("the memory of destroyed copies and of ended searches")
 
 
 def memory(tests):
@@ -760,8 +822,10 @@ def main(program):
     long_history(tests)
     packets(tests)
     single_writes(tests)
+    single_errors(tests)
     callers(tests)
     audits(tests)
+    ended(tests)
     memory(tests)
     sessions_with_objects(tests)
     many_changes(tests)

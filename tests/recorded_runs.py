@@ -12,7 +12,7 @@ import resource
 import sys
 import tempfile
 
-from program import HERE, Tests
+from program import HERE, Tests, seconds_of_programs
 
 PROGRAM = os.path.join(HERE, "..", "crates", "ck_cases", "out", "ck_cases")
 
@@ -238,6 +238,13 @@ LARGE_REPLY = b"".join([
     b"1 CreateObject 1 0=0000000000000000,11=", b"61" * 1_000_000, b"\n",
     b"1 GetAttributeValue 1 1 ", b",".join([b"11:1000000"] * 200), b"\n"])
 
+# How many token objects a cut keeps in two cases that are compared, how many times as long that of
+# the many may take, and how often at most they are played, since other work of the machine can make
+# one take longer.
+FEW_KEPT, MANY_KEPT = 20_000, 80_000
+MOST_GROWTH = 8
+MOST_TRIES = 6
+
 USAGE = b"\n\nUsage: ck_cases [OPTIONS] <FILE>..."
 MORE = b"\n\nFor more information, try '--help'.\n"
 
@@ -402,6 +409,32 @@ def audits(tests):
     tests.end("cases are audited at their end and before a cut, and find no memory for it")
 
 
+def seconds_of_cut(tests, count):
+    """The processor time of a case with a cut that keeps this many objects, and with an audit, which
+    starts from them."""
+    creations = b"".join(b"1 CreateObject 1 0=0000000000000000,1=01 -> 0 %d\n" % number
+                         for number in range(1, count + 1))
+    case = (b"1 InitToken 31323334 -> 0\n1 OpenSession 6 -> 0 1\n" + creations
+            + b"1 CloseSession 1 -> 0\ncut -> entries %d\naudit largest -> legal\n" % (count + 3))
+    before = seconds_of_programs()
+    tests.check_file(case, ["t"], b"t: %d passed\n" % (count + 5), b"", 0)
+    return seconds_of_programs() - before
+
+
+def cuts(tests):
+    """A cut, and a token that starts from what it has left, take no more than twice as long for each
+    of many objects as for each of few."""
+    few = many = float("inf")
+    for _ in range(MOST_TRIES):
+        few = min(few, seconds_of_cut(tests, FEW_KEPT))
+        many = min(many, seconds_of_cut(tests, MANY_KEPT))
+        if many < MOST_GROWTH * few:
+            break
+    tests.expect(many < MOST_GROWTH * few,
+                 f"{FEW_KEPT} objects took {few:.3f} s, {MANY_KEPT} took {many:.3f} s")
+    tests.end("the time of cuts")
+
+
 def arguments(tests):
     for words in (["--help"], ["-h"], ["t", "--help"]):
         tests.check_file(b"foo", words, HELP, b"", 0)
@@ -445,6 +478,7 @@ def main(program):
     many_lines(tests)
     long_texts(tests)
     audits(tests)
+    cuts(tests)
     arguments(tests)
     bad_files(tests)
     full_device(tests)

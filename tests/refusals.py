@@ -39,46 +39,29 @@ NAMED = re.compile(r"-clause-(\w*)")
 # the end of a closure.
 OF_NO_CLAUSE = re.compile(r"(?:invariant|overflow|nonzero|\w*bounds)|.+-returns\b")
 
-# Edits that are refused elsewhere, though each breaks its clause, too: the goal, and why it comes
-# first. Where it is the answer that no longer fits, the goal may be true.
+# Edits that are refused elsewhere, though each breaks its clause or its law, too: the goal, and why
+# it comes first. Where it is the answer that no longer fits, the goal may be true.
 INVARIANT = "what is answered of the type's invariant doesn't fit, and that is looked at first"
 ALIKE = "a lemma of cuts goes by the form of this definition, and it is looked at before the law"
 ELSEWHERE = {
     "ck_callers/a_caller_does_not_see_its_own_reply": ("invariant_of-self", INVARIANT),
-    "ck_callers/a_caller_keeps_its_reply_before": ("invariant_of-self", INVARIANT),
-    "ck_callers/a_login_leaves_the_board": ("invariant_of-self", INVARIANT),
-    "ck_callers/added_at_another_length": ("invariant_of-self", INVARIANT),
     "ck_callers/an_entry_counts_twice": (
         "overflow_add-count", "two more than the count need not fit in its type"),
     "ck_callers/news_are_not_learnt": ("invariant_of-self", INVARIANT),
     "ck_callers/scripts_come_back_in_the_reverse_order": (
         "scope-returns", "the closure in which the scripts are put together is looked at first"),
-    "ck_foreign/work_that_is_not_done_is_used": (
-        "call_after-requires", "the body breaks what it calls, and no clause of its own before"),
     "ck_journal/definition_of_cuts_unlocks_the_security_officer": ("base_tries-same", ALIKE),
     "ck_journal/definition_of_destructions_passes_over_read_only_sessions": (
         "call_error-alike", ALIKE),
     "ck_journal/definition_of_final_signing_passes_over_the_state": ("call_error-alike", ALIKE),
-    "ck_journal/definition_of_placement_passes_over_read_only_sessions": (
-        "placement-alike", ALIKE),
     "ck_journal/definition_of_searches_begins_again": ("search_rest-alike", ALIKE),
     "ck_journal/definition_of_searches_returns_numbers": ("allowed-alike", ALIKE),
     "ck_program/every_fault_ends_with_status_7": (
         "returns-then-run-eq0-clause-end_found",
         "the search gives up at this clause, which is looked at before that of the status"),
-    "ck_shared/calls_are_those_of_the_first_caller": (
-        "extend-requires-clause-next", "the history is made longer by the entry before the end"),
     "ck_store/objects_are_lost_where_memory_ends": (
         "invariant_of-self", "it is wanted where the objects are cleared, before the end"),
     "ck_store/setting_an_attribute_also_changes_another_object": ("invariant_of-self", INVARIANT),
-    "ck_store/setting_an_attribute_changes_another_object": (
-        "change_at-mark-requires", "the values need not pass the checks of another object"),
-    "ck_token/a_cut_starts_the_logins_over": (
-        "from_base-journal-requires", "the journal is made before the end, from a sound base"),
-    "ck_token/a_cut_starts_the_users_tries_over": (
-        "from_base-journal-requires", "the journal is made before the end, from a sound base"),
-    "ck_token/a_wrong_pin_behind_another_callers_try_is_not_counted": (
-        "apply-requires-clause-counted", "the change is carried out before the end"),
     "ck_token/out_of_memory_after_the_entry": (
         "invariant_of-self", "it is wanted at both ends then, and isn't found at the first one"),
 }

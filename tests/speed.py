@@ -274,6 +274,8 @@ EVEN = [
     ("creations", creations),
     ("creations and destructions", lambda count: creations(count) + destructions(count)),
     ("results of a search, one by one", lambda count: creations(count) + single_results(count)),
+    ("results of a search, all at once", lambda count: [
+        *creations(count), "1 FindObjectsInit 1 -", f"1 FindObjects 1 {count}"]),
     ("objects among missing ones", scattered),
     ("objects that come and go in twos beside others", turnover),
     ("sessions with an object each, one after the other", lambda count: sessions(count, 1)),

@@ -4,7 +4,7 @@ use Rattle.ck_types.specs.TokenLimits.{Ranges}
 use Rattle.ck_journal.specs.declared.calls.Call.{Call}
 use Rattle.ck_journal.specs.Histories.{History}
 use Rattle.ck_journal.specs.Works.{IsBegun, IsDone, IsAhead}
-use Rattle.ck_token.specs.Decisions.{may_run_out}
+use Rattle.ck_journal.specs.MemoryNeeds.{may_run_out}
 use Rattle.ck_script.specs.Lines.{meaning}
 use Rattle.ck_script.specs.declared.lines.Line.TheVariants as line
 use Rattle.ck_foreign.specs.Calls.{IsCalled}

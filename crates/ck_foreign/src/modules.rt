@@ -5,7 +5,7 @@ ghost use Rattle.ck_script.specs.Replies.{reply_line};
 ghost use Rattle.ck_foreign.specs.Calls.{IsCalled, IsLine, IsText};
 ghost use Rattle.ck_foreign.specs.Lives.{IsNew, IsModuleCut};
 ghost use Rattle.ck_foreign.specs.declared.outcomes.Outcome.TheVariants as outcome;
-ghost use Rattle.ck_token.specs.Decisions.{may_run_out};
+ghost use Rattle.ck_journal.specs.MemoryNeeds.{may_run_out};
 
 use crate::outcomes::Outcome;
 use ck_script::{Line, LineError, push_line};

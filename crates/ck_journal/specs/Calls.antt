@@ -1,4 +1,4 @@
--- Which calls have lists
+-- Which calls have lists. No reply is defined by these.
 use Rattle.std.specs.Prelude.{Bool, true, false}
 use Rattle.ck_journal.specs.declared.calls.Call.{Call}
 use Rattle.ck_journal.specs.declared.calls.Call.TheVariants as call

@@ -1,4 +1,5 @@
--- By what the prover tells histories apart: their base and their entries
+-- By what the prover tells histories apart: their base and their entries. No reply is defined by
+-- these.
 use Rattle.std.specs.Prelude.{◌≡◌, List, refl}
 use Rattle.std.proofs.Common.{ap}
 use Rattle.std.specs.Coded.{Coded, code_by, coded×, coded_list}

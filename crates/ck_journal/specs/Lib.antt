@@ -14,6 +14,7 @@ pub mod KeyLaws
 pub mod Laws
 pub mod LawsOverEvents
 pub mod Lists
+pub mod MemoryNeeds
 pub mod Objects
 pub mod OperationCalls
 pub mod Operations

@@ -16,10 +16,11 @@ pub trait JournaledToken: Drop {
     ghost use Rattle.ck_journal.specs.Bases.{empty_base, IsSound};
     ghost use Rattle.ck_journal.specs.Boards.{board_of};
     ghost use Rattle.ck_journal.specs.Histories.{start};
+    ghost use Rattle.ck_journal.specs.MemoryNeeds.{FindsMemory};
     ghost use Rattle.ck_journal.specs.TokenStates.{TokenState, IsAnswered, IsUnchanged};
     ghost use Rattle.ck_journal.specs.Works.{IsBegun, IsAhead};
 
-    // the token's limits and its history
+    // the token's limits, its history, and for how many more entries its journal has room
     ghost state: { Self → TokenState };
 
     /// A token that has answered no call, which takes no memory.
@@ -35,12 +36,14 @@ pub trait JournaledToken: Drop {
 
     /// Answers a call and enters it in the journal. `caller` is a number of the application's
     /// choice. It stands in the entry, and no reply depends on it. Where there is no memory for the
-    /// call, it isn't in the journal, and the limits and the history are as they were.
+    /// call, it isn't in the journal, and the limits and the history are as they were. Where the
+    /// journal has room, only a call for which `may_run_out` is true can be without memory.
     fn call(&mut self, alloc: Global, caller: u32, call: Call) -> Result<Reply, NoMemory>
         ensures answered { IfOk result (λ reply.
             IsAnswered (state self.old) (state self.new) caller call reply) }
         ensures unchanged { OnErr result (IsUnchanged (state self.old) (state self.new)) }
-        ensures legal { IsLegal (state self.new).limits (state self.new).history };
+        ensures legal { IsLegal (state self.new).limits (state self.new).history }
+        ensures memory { FindsMemory (state self.old) (state self.new) call result };
 
     /// Begins the work on a message that the call brings, so that its bytes can be taken in before
     /// the call is made. The token may give `None` for any call; then there is no work to do.
@@ -61,7 +64,8 @@ pub trait JournaledToken: Drop {
         ensures answered { IfOk result (λ reply.
             IsAnswered (state self.old) (state self.new) caller call reply) }
         ensures unchanged { OnErr result (IsUnchanged (state self.old) (state self.new)) }
-        ensures legal { IsLegal (state self.new).limits (state self.new).history };
+        ensures legal { IsLegal (state self.new).limits (state self.new).history }
+        ensures memory { FindsMemory (state self.old) (state self.new) call result };
 
     /// The base that the token started from, and all calls that it has answered since.
     fn journal(&self) -> &Journal

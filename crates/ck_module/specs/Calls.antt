@@ -1,7 +1,7 @@
 -- What an export does whose call has no lists
 use Rattle.std.specs.Prelude.{◌≡◌, ◌<◌, ℕ, false}
 use Rattle.ck_journal.specs.declared.calls.Call.{Call}
-use Rattle.ck_token.specs.Decisions.{may_run_out}
+use Rattle.ck_journal.specs.MemoryNeeds.{may_run_out}
 use Rattle.ck_foreign.specs.Calls.{IsCalledBy}
 use Rattle.ck_foreign.specs.declared.modules.Module.{Module}
 

@@ -308,10 +308,9 @@ impl<'a, K: TokenId, R: Runtime> Shared<'a, K, R> {
         check_learning(alloc, callers, FIRST)
     }
 
-    /// Checks that the second caller, when it has made a call that leaves the sessions, the login
-    /// and the PINs as they are, is answered without the lock as before, and that so is the first
-    /// caller when it has learnt of that call. Then the second sees a login of the first by asking
-    /// only.
+    /// The second caller makes a call that leaves the sessions, the login and the PINs as they are.
+    /// Then both callers are answered without the lock as before, the first once it has learnt of
+    /// that call. And the second sees a login of the first by asking only.
     fn check_own_call(&self, callers: &mut [Caller<K>]) -> anyhow::Result<()> {
         let alloc = self.rt.alloc();
         let (session, ask) = (1, Ask::Session(1));

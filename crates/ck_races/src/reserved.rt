@@ -49,7 +49,7 @@ fn reserved_token(alloc: Global) -> anyhow::Result<Token> {
     Ok(token)
 }
 
-/// The same, with an active digest.
+/// As `reserved_token`, with an active digest, whose start is one of the three entries.
 fn token_with_digest(alloc: Global) -> anyhow::Result<Token> {
     let mut token = reserved_token(alloc)?;
     make_calls(alloc, &mut token, &lines_in(alloc, &DIGEST)?)?;

@@ -59,14 +59,14 @@ fn share_race<R: Runtime>(
     check_run(alloc, token, race, &order, all)
 }
 
-/// The same on a new token.
+/// As `share_race`, on a new token.
 fn run_shared<R: Runtime>(rt: R, race: &Race, callers: &[u32]) -> anyhow::Result<u64> {
     let mut token = prepared_token(rt.alloc(), race)?;
     share_race(rt, &mut token, race, callers)
 }
 
-/// The same by `run_scripts`, where the bytes of each long message are taken in before the call is
-/// held.
+/// As `run_shared`, by `run_scripts`, where the bytes of each long message are taken in before the
+/// call is held.
 fn run_scripted<R: Runtime>(rt: R, race: &Race, callers: &[u32]) -> anyhow::Result<u64> {
     let alloc = rt.alloc();
     let order = CallOrder::new(callers);

@@ -49,7 +49,7 @@ pub(crate) fn prepared_token(alloc: Global, race: &Race) -> anyhow::Result<Token
     token_after(alloc, race.limits, &race.earlier)
 }
 
-/// The calls of texts.
+/// The calls, with their replies, that these texts write.
 pub(crate) fn lines_in<'a>(alloc: Global, texts: &[&'a str]) -> anyhow::Result<Vec<RaceLine<'a>>> {
     let mut lines = Vec::new(alloc);
     let mut number = 0u64;

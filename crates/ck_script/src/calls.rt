@@ -33,7 +33,7 @@ impl<'a> Arguments<'a> {
             ⊎ ((call : Call) → with_none call self.entry.words ≡ None)) }
         ensures memory { result ≡ Err LineError.Memory → ⊥ }
     {
-        if self.words.none() {
+        if self.words.is_empty() {
             Ok(make())
         } else {
             Err(LineError::Bad(BadLine::ArgumentCount(self.name, Arity::None)))

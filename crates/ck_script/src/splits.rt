@@ -75,7 +75,7 @@ impl<'a> Split<'a> {
     }
 
     /// Whether no word is left.
-    pub(crate) fn none(mut self) -> bool
+    pub(crate) fn is_empty(mut self) -> bool
         ensures { result ≡ (length self.entry == 0) }
     {
         self.next().is_none()

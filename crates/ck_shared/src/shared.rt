@@ -41,7 +41,7 @@ const LOOKS: u32 = 11;
 /// about a microsecond together.
 const QUICK_LOOKS: u32 = 5;
 
-/// How many times a thread lets others run after the first look behind those, which takes about 20
+/// How many times a thread lets others run after the next look, the sixth, which takes about 20
 /// microseconds. After each later look it does so twice as many times as before.
 const YIELDS: u32 = 64;
 

@@ -11,21 +11,25 @@ use std::sync::Wait;
 struct ThreeSessions;
 
 impl<R: Wait + AllocGlobal> CallerWork<R> for ThreeSessions {
-    ghost use Rattle.std.specs.Prelude.{◌≡◌};
+    ghost use Rattle.std.specs.Prelude.{◌≡◌, IfOk};
 
-    /// How many calls of the caller were answered.
-    type Output = u64;
+    /// How many calls of the caller were answered, where each opened a session.
+    type Output = anyhow::Result<u64>;
 
-    // What is proved of each output: it is how many calls of the caller were answered.
-    ghost holds = { λ work before after count. count ≡ after.count };
+    // What is proved: where the output is a number, it is that of the caller's answered calls.
+    ghost holds = { λ work before after done. IfOk done (λ count. count ≡ after.count) };
 
-    fn act<K: TokenId, G: Gate<K>>(&self, rt: &R, gate: &G, caller: &mut Caller<K>) -> u64 {
+    fn act<K: TokenId, G: Gate<K>>(
+        &self,
+        rt: &R,
+        gate: &G,
+        caller: &mut Caller<K>,
+    ) -> anyhow::Result<u64> {
         for _ in 0..3u32 {
             let call = Call::OpenSession { flags: READ_WRITE };
-            // The reply isn't read: the caller counts its calls that were answered.
-            let _reply = gate.call(rt, rt.alloc(), caller, call);
+            gate.call(rt, rt.alloc(), caller, call)?.ok()?;
         }
-        caller.count()
+        Ok(caller.count())
     }
 }
 
@@ -46,9 +50,9 @@ fn main(rt: HostRuntime) -> anyhow::Result<()> {
     token.try_call(alloc, 1, Call::InitToken { pin })?;
     // A token whose journal has entries isn't shared.
     token.cut(alloc)?;
-    let counts = share(rt, alloc, &mut token, 2, &ThreeSessions)?;
-    let calls = counts
-        .iter()
-        .fold(0u64, |sum, count| sum.saturating_add(*count));
+    let mut calls = 0u64;
+    for count in share(rt, alloc, &mut token, 2, &ThreeSessions)? {
+        calls = calls.saturating_add(count?);
+    }
     write_counts(&rt, token.journal(), calls)
 }

@@ -44,8 +44,9 @@ use Rattle.ck_parts.specs.Agreement.{adds}
 use Rattle.ck_parts.specs.Changes.{change_of, wrong_try_change, finish_change, refused_change}
 use Rattle.ck_parts.specs.Changes.{refused_by, refused_step, effect, effect_by}
 use Rattle.ck_token.proofs.SearchLemmas.{same-empty}
-use Rattle.ck_token.specs.Decisions.{IsDecided, IsDecision, takes_memory, gives_nothing}
-use Rattle.ck_token.specs.Decisions.{may_take_memory, may_run_out, reply_of}
+use Rattle.ck_journal.specs.MemoryNeeds.{takes_memory, gives_nothing, may_take_memory}
+use Rattle.ck_journal.specs.MemoryNeeds.{may_run_out}
+use Rattle.ck_token.specs.Decisions.{IsDecided, IsDecision, reply_of}
 use Rattle.ck_parts.specs.declared.changes.Change.{Change}
 use Rattle.ck_parts.specs.declared.changes.Change.TheVariants as change
 use Rattle.ck_token.specs.declared.decisions.Decision.{Decision}

@@ -9,7 +9,7 @@ use Rattle.ck_journal.specs.Answers.{IsLegal}
 use Rattle.ck_journal.specs.Histories.{History, ◌◁◌}
 use Rattle.ck_journal.specs.declared.calls.Call.{Call}
 use Rattle.ck_token.proofs.DecisionLemmas.{free-call}
-use Rattle.ck_token.specs.Decisions.{takes_memory, may_run_out}
+use Rattle.ck_journal.specs.MemoryNeeds.{takes_memory, may_run_out}
 use Rattle.ck_journal.specs.TokenStates.{TokenState, entry_of, after, HasAnswered, IsAnswered}
 
 -- this number of calls of the list is answered, and the others are left

@@ -5,9 +5,9 @@ use ck_parts::Change;
 use ck_types::{NoMemory, Rv, RvError};
 use std::alloc::AllocError;
 
-/// The reply to a call, as its code and its body, and what the call changes. They are no `Reply`
-/// yet, since its padding would be moved with it: `Token::call_after` makes the replies at its end,
-/// one for the entry and one for the caller.
+/// The reply to a call, as its code and its body, and what the call changes. They aren't a `Reply`
+/// yet: a `Reply` has padding, which would be copied too. `Token::call_after` makes the replies at
+/// its end, one for the entry and one for the caller.
 #[derive(Drop)]
 pub(crate) struct Decision {
     pub(crate) rv: Rv,

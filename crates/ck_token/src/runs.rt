@@ -1,7 +1,7 @@
 ghost use Rattle.std.specs.Prelude.{◌≡◌, ◌<◌, ◌≤◌, ◌+◌, ℕ, false, length, All, IsOk, OnOk, OnErr};
 ghost use Rattle.ck_journal.specs.Answers.{answer, IsLegal};
 ghost use Rattle.ck_journal.specs.declared.calls.Call.{Call};
-ghost use Rattle.ck_token.specs.Decisions.{takes_memory, may_run_out};
+ghost use Rattle.ck_journal.specs.MemoryNeeds.{takes_memory, may_run_out};
 ghost use Rattle.ck_token.specs.Runs.{IsRun};
 ghost use Rattle.ck_journal.specs.TokenStates.{IsAnswered, IsUnchanged};
 

@@ -1,6 +1,7 @@
 ghost use Rattle.std.specs.Prelude.{◌≡◌, ◌<◌, ◌≤◌, false, IfOk, IfSome, IsOk, OnOk};
 ghost use Rattle.std.specs.Option.{option_copied};
 ghost use Rattle.ck_journal.specs.Histories.{History};
+ghost use Rattle.ck_journal.specs.MemoryNeeds.{may_run_out};
 ghost use Rattle.ck_journal.specs.Replies.{has_items};
 ghost use Rattle.ck_parts.specs.Agreement.{PartsAgree, adds, HasRoom};
 
@@ -110,11 +111,11 @@ impl Token {
     ghost use Rattle.ck_journal.specs.Cuts.{base_of, IsLeftBy};
     ghost use Rattle.ck_journal.specs.Histories.{start, start_of};
     ghost use Rattle.ck_journal.specs.Laws.{IsSoundHistory};
-    ghost use Rattle.ck_parts.specs.Changes.{effect};
-    ghost use Rattle.ck_token.specs.Cuts.{IsCut};
-    ghost use Rattle.ck_token.specs.Decisions.{IsDecision, may_run_out, reply_of};
     ghost use Rattle.ck_journal.specs.TokenStates.{IsAnswered, IsUnchanged};
     ghost use Rattle.ck_journal.specs.Works.{IsAhead, HoldsAfter};
+    ghost use Rattle.ck_parts.specs.Changes.{effect};
+    ghost use Rattle.ck_token.specs.Cuts.{IsCut};
+    ghost use Rattle.ck_token.specs.Decisions.{IsDecision, reply_of};
 
     /// A token that has answered no call; to make it takes no memory.
     pub fn new(alloc: Global, limits: Limits) -> Token
@@ -221,10 +222,10 @@ impl Token {
     /// changed and the call isn't in the journal. `caller` is a number of the application's choice.
     /// It stands in the entry, and no reply depends on it.
     ///
-    /// Where the journal has room, only a call that passes its checks can run out of memory, and
-    /// only one of these: those that open a session; that create, generate or copy an object; that
-    /// set or read attributes; that find or return objects; that read the list of mechanisms; that
-    /// start an operation; and that give a digest or a signature.
+    /// Where the journal has room, a call that fails one of its checks is never out of memory. One
+    /// that passes them may be out of memory only where it opens a session; creates, generates or
+    /// copies an object; sets or reads attributes; finds or returns objects; reads the list of
+    /// mechanisms; starts an operation; or gives a digest or a signature.
     // Inlined, since a function that only hands a call on would copy it.
     #[inline(always)]
     pub fn call(&mut self, alloc: Global, caller: u32, call: Call) -> Result<Reply, NoMemory>

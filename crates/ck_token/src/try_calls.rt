@@ -1,6 +1,6 @@
 ghost use Rattle.std.specs.Prelude.{◌≡◌, ◌≢◌, ◌<◌, ◌≤◌, ◌+◌, false};
 ghost use Rattle.ck_journal.specs.Answers.{IsLegal};
-ghost use Rattle.ck_token.specs.Decisions.{may_run_out};
+ghost use Rattle.ck_journal.specs.MemoryNeeds.{may_run_out};
 ghost use Rattle.ck_token.specs.TryCalls.{IsTried};
 ghost use Rattle.ck_token.specs.declared.try_calls.CallError.TheVariants as call_error;
 

@@ -24,7 +24,7 @@ use std::alloc::Global;
 /// The change of a reply that may end the session's operation: it ends where `ends` is true, else
 /// it stays.
 // A function, since the proof of `verify` names what is known after it.
-fn finish_operation(kind: OperationKind, session: u64, ends: bool) -> Change
+fn finish_change(kind: OperationKind, session: u64, ends: bool) -> Change
     ensures { result ≡ change.FinishOperation kind session ends }
 {
     Change::FinishOperation {
@@ -55,7 +55,7 @@ fn length_decision(
     Some(Decision {
         rv,
         body: Body::Length(len),
-        change: finish_operation(kind, session, false),
+        change: finish_change(kind, session, false),
     })
 }
 
@@ -76,7 +76,7 @@ fn bytes_decision(
     Ok(Decision {
         rv: Rv::Ok,
         body: Body::Bytes(bytes),
-        change: finish_operation(kind, session, true),
+        change: finish_change(kind, session, true),
     })
 }
 
@@ -86,7 +86,7 @@ fn ending_refusal(kind: OperationKind, session: u64, error: RvError) -> Refused
 {
     Refused::Error {
         error,
-        change: finish_operation(kind, session, true),
+        change: finish_change(kind, session, true),
     }
 }
 
@@ -428,11 +428,7 @@ impl Token {
     {
         match self.check_verify(session, bytes, signature, ready) {
             Err(error) => Err(ending_refusal(OperationKind::Verify, session, error)),
-            Ok(()) => Ok(Decision::of_change(finish_operation(
-                OperationKind::Verify,
-                session,
-                true,
-            ))),
+            Ok(()) => Ok(Decision::of_change(finish_change(OperationKind::Verify, session, true))),
         }
     }
 
@@ -445,11 +441,7 @@ impl Token {
     {
         match self.check_verify_final(session, signature) {
             Err(error) => Err(ending_refusal(OperationKind::Verify, session, error)),
-            Ok(()) => Ok(Decision::of_change(finish_operation(
-                OperationKind::Verify,
-                session,
-                true,
-            ))),
+            Ok(()) => Ok(Decision::of_change(finish_change(OperationKind::Verify, session, true))),
         }
     }
 }

@@ -22,6 +22,6 @@ returns-in-Ok c =
     let h = c.args.self.now.history in
     let passes = check_of-ok (verify_error h c.args.session c.args.bytes.now c.args.signature.now) _
     (sym c.check_verify.ensures ∙ c.in-Ok.is) in
-    ends-decision c.args.session c.of_change.result c.finish_operation.result
+    ends-decision c.args.session c.of_change.result c.finish_change.result
     (verify_error h c.args.session c.args.bytes.now c.args.signature.now)
-    c.of_change.ensures c.finish_operation.ensures passes
+    c.of_change.ensures c.finish_change.ensures passes
