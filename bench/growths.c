@@ -1,6 +1,8 @@
 /* Refuses growths of memory of the program that it is loaded into before the C library: the one
  * whose number, from 1, stands in REFUSED_GROWTH, and all from the one on whose number stands in
- * REFUSED_FROM. At the end it writes to the file descriptor 3 how many growths there were. */
+ * REFUSED_FROM. At the end it writes to the file descriptor 3 how many growths there were. With
+ * GROWTHS_OF_MAIN it counts those of the main thread alone, whose numbers don't depend on when the
+ * other threads run. */
 #include <errno.h>
 #include <stdatomic.h>
 #include <stdio.h>
@@ -13,6 +15,7 @@ void *__libc_realloc(void *block, size_t size);
 
 static long refused;
 static long refused_from;
+static long is_of_main;
 static atomic_long growths;
 
 static long number_in(const char *name) {
@@ -23,6 +26,7 @@ static long number_in(const char *name) {
 __attribute__((constructor)) static void start(void) {
     refused = number_in("REFUSED_GROWTH");
     refused_from = number_in("REFUSED_FROM");
+    is_of_main = number_in("GROWTHS_OF_MAIN");
     growths = 0;
 }
 
@@ -38,6 +42,8 @@ void _exit(int status) {
 }
 
 static int is_refused(void) {
+    if (is_of_main && syscall(SYS_gettid) != getpid())
+        return 0;
     long number = ++growths;
     if (number != refused && (refused_from == 0 || number < refused_from))
         return 0;

@@ -129,17 +129,17 @@ def build(folder):
     return library
 
 
-def play(library, words, text, growth, first=0):
+def play(library, words, text, growth, first=0, of_main=False):
     """One run of a command. Refuses the growth of number `growth`, and each from number `first` on;
-    0 is none."""
+    0 is none. With `of_main` those of the main thread alone are counted."""
     # Standard input, output and error, and descriptor 3, to which growths.c writes how many growths
     # there were.
     files = [tempfile.TemporaryFile() for _ in range(4)]
     files[0].write(text)
     files[0].seek(0)
     actions = [(os.POSIX_SPAWN_DUP2, file.fileno(), number) for number, file in enumerate(files)]
-    environment = {
-        "LD_PRELOAD": library, "REFUSED_GROWTH": str(growth), "REFUSED_FROM": str(first)}
+    environment = {"LD_PRELOAD": library, "REFUSED_GROWTH": str(growth),
+                   "REFUSED_FROM": str(first), "GROWTHS_OF_MAIN": str(int(of_main))}
     child = os.posix_spawn(words[0], words, environment, file_actions=actions)
     _, status = os.waitpid(child, 0)
     texts = []
@@ -364,11 +364,12 @@ def check_text(library, words, script, may_lack):
 
 
 def check_threads(library, callers):
-    """A thread has one growth, or two: only where one of these is refused isn't it started."""
+    """A thread has one growth of the main thread, or two: only where one of these is refused isn't
+    it started."""
     text = b"".join(b"%d GetTokenInfo\n" % (number + 1) for number in range(callers))
     words = [SCRIPTS, "--callers", str(callers)]
-    growths = play(library, words, text, 0).growths
-    ends = [play(library, words, text, growth) for growth in range(1, growths + 1)]
+    growths = play(library, words, text, 0, of_main=True).growths
+    ends = [play(library, words, text, growth, of_main=True) for growth in range(1, growths + 1)]
     count = sum(ended.errors == THREAD_ERRORS[1] for ended in ends)
     if callers <= count <= 2 * callers:
         return growths, 0, []
