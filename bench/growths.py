@@ -10,8 +10,8 @@ second time either, it says so in other words, and that is a fault. The calls of
 played as a script: all replies are written, or whole lines at their front, and then the program
 says that it is out of memory. The same script is played in threads, with `--callers 8`: it is
 summed up, or nothing is written, since there was no memory or no thread. Where anything else comes,
-it is printed, and the status is 1. Bad lines are left out: they make no call, and without memory
-one may have another reason.
+it is printed, and the status is 1. Bad lines are left out, since they make no call. Some are played
+by themselves: what is bad is told where there is no memory for the other arguments.
 
 The calls of each race in crates/ck_races/data are made one after the other, in three ways. By two
 callers of a shared token in turn: where one finds no memory, it knows what it did before and is
@@ -103,6 +103,16 @@ ALIKE = [
         f"1 GenerateKey {{}} 350 161=2000000000000000 {'61' * 32}",
         f"1 SetAttributeValue {{}} 1 1=00,{VALUE}",
     )),
+]
+
+# Bad lines that take no memory to be parsed, and others, as long and bad for the same reason, that
+# take some before or behind what is bad.
+BAD_LINES = [
+    (f"1 Logout {'x' * 13}", "1 Digest 1 61626364 xx"),
+    (f"1 Logout {'x' * 13}", "1 Digest x 61626364 32"),
+    (f"1 DigestUpdate 1 {'6' * 5}", "1 InitToken 616263646g"),
+    (f"1 DigestUpdate 1 {'6' * 13}", "1 CreateObject 1 3=6162,11=616"),
+    (f"1 DigestUpdate 1 {'6' * 17}", "1 GenerateKey 1 350:6 11=6162 6162"),
 ]
 
 # A call that takes no memory itself, and for how many entries the journal takes memory at once.
@@ -344,6 +354,26 @@ def check_marks(library):
     return 0, 0, [f"with a creation {created} refused growths are passed over, and {other} without"]
 
 
+def answers_to(library, line):
+    """How a line is answered, how often it finds no memory where one growth after the other is
+    refused, and how else it is answered then."""
+    script = f"{line}\n".encode()
+    plain = play(library, [SCRIPTS], script, 0)
+    ends = [play(library, [SCRIPTS], script, growth)[:3] for growth in range(1, plain.growths + 1)]
+    others = [ended for ended in ends if ended not in (plain[:3], NO_MEMORY)]
+    return plain[:3], ends.count(NO_MEMORY), others
+
+
+def check_bad_lines(library):
+    """What is bad is told where there is no memory for what stands before it or behind it."""
+    faults = []
+    for without, line in BAD_LINES:
+        answers, wanted = answers_to(library, line), answers_to(library, without)
+        if answers != wanted or answers[0][0] != 2 or answers[2]:
+            faults.append(f"{line}: {answers}, and {without}: {wanted}")
+    return 0, 0, faults
+
+
 def check_segment(library):
     """The journal takes memory for many entries at once, and no other for them."""
     one, many = (play(library, [SCRIPTS], FREE_CALL * calls, 0).growths for calls in (1, SEGMENT))
@@ -415,6 +445,7 @@ def checks_of_scripts(library):
     arguments."""
     yield check_alike, library
     yield check_marks, library
+    yield check_bad_lines, library
     yield check_segment, library
     for words, script, may_lack in TEXTS:
         yield check_text, library, words, script, may_lack

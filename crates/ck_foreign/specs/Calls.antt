@@ -3,7 +3,6 @@ use Rattle.std.specs.Prelude.{◌≡◌, ◌≤◌, ◌+◌, ℕ, ◌⊎◌, Lis
 use Rattle.ck_journal.specs.Answers.{IsLegal}
 use Rattle.ck_journal.specs.declared.calls.Call.{Call}
 use Rattle.ck_journal.specs.TokenStates.{IsAnswered, IsUnchanged}
-use Rattle.ck_script.specs.Arities.{IsCallLine}
 use Rattle.ck_script.specs.Lines.{meaning}
 use Rattle.ck_script.specs.Replies.{reply_line}
 use Rattle.ck_script.specs.declared.lines.Line.TheVariants as line
@@ -37,15 +36,15 @@ IsCalled caller c outcome.NoMemory old new = IsSame old new
 abbrev pub MeansNoCall : List ℕ → Type 0
 MeansNoCall bytes = (meaning bytes ≡ None) ⊎ (meaning bytes ≡ Some line.Skipped)
 
--- the call that the line means was answered; or the line means none; or there was no memory, which
--- is so of a line without a call only where it has a call's name and as many arguments as that has
+-- the call that the line means was answered, or there was no memory for it; or the line means none
 abbrev pub IsLine : List ℕ → Outcome → Module → Module → Type 0
 IsLine bytes outcome.Answered old new =
     (caller : ℕ) × (c : Call) × (meaning bytes ≡ Some (line.Called caller c))
     × IsKept old new caller c
 IsLine bytes outcome.NoCall old new =
     MeansNoCall bytes × (new ≡ old)
-IsLine bytes outcome.NoMemory old new = (MeansNoCall bytes → IsCallLine bytes) × IsSame old new
+IsLine bytes outcome.NoMemory old new =
+    (caller : ℕ) × (c : Call) × (meaning bytes ≡ Some (line.Called caller c)) × IsSame old new
 
 -- the text of the reply was made; or there was no memory for it, and nothing is said of the text
 abbrev pub IsText : Outcome → Module → Module → Type 0

@@ -1,3 +1,4 @@
 pub mod WordLemmas
 pub mod DigitLemmas
 pub mod JoinLemmas
+pub mod MeaningLemmas

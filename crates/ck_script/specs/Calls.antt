@@ -1,5 +1,6 @@
 -- The call that a name and its arguments make
-use Rattle.std.specs.Prelude.{ℕ, List, Option, option_map, option_and_then}
+use Rattle.std.specs.Prelude.{ℕ, Bool, true, false, List, Option, option_map}
+use Rattle.std.specs.Prelude.{option_and_then}
 use Rattle.ck_journal.specs.declared.calls.Call.{Call}
 use Rattle.ck_journal.specs.declared.calls.Call.TheVariants as call
 use Rattle.ck_script.specs.Splits.{with_none, with_one, with_three, with_four}
@@ -95,3 +96,11 @@ call_of function.SetKeyState = takes_three number_in number_in number_in call.Se
 abbrev pub call_in : List ℕ → List (List ℕ) → Option Call
 call_in name arguments =
     option_and_then (λ (row : Function × List ℕ). call_of row.0 arguments) (row_named name)
+
+-- a call with a PIN, whose bytes take memory
+abbrev pub has_pin : Call → Bool
+has_pin (call.InitToken pin) = true
+has_pin (call.InitPin session pin) = true
+has_pin (call.SetPin session old new) = true
+has_pin (call.Login session user pin) = true
+has_pin others = false

@@ -3,5 +3,4 @@ pub mod Arguments
 pub mod CallNames
 pub mod Calls
 pub mod Lines
-pub mod Arities
 pub mod Replies

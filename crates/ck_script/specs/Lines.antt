@@ -1,10 +1,12 @@
 -- The lines of a script, and what one of them means. A line's bytes stand here without its end.
-use Rattle.std.specs.Prelude.{ℕ, Bool, List, ◌∷◌, Option, Some, None, option_and_then}
-use Rattle.std.specs.Prelude.{◌==◌, ◌&&◌, ◌||◌, nat_le, nat_lt, length, slice_index, if◌then◌else◌}
+use Rattle.std.specs.Prelude.{◌≡◌, ℕ, Bool, true, List, ◌∷◌, length, slice_index}
+use Rattle.std.specs.Prelude.{Option, Some, None, option_and_then}
+use Rattle.std.specs.Prelude.{◌==◌, ◌&&◌, ◌||◌, nat_le, nat_lt, if◌then◌else◌}
 use Rattle.std.specs.List.{slice_split}
+use Rattle.ck_journal.specs.Calls.{brings_list}
 use Rattle.ck_script.specs.Splits.{words_of}
 use Rattle.ck_script.specs.Arguments.{number_in, both}
-use Rattle.ck_script.specs.Calls.{call_in}
+use Rattle.ck_script.specs.Calls.{call_in, has_pin}
 use Rattle.ck_script.specs.declared.lines.Line.{Line}
 use Rattle.ck_script.specs.declared.lines.Line.TheVariants as line
 
@@ -52,3 +54,8 @@ meaning bytes =
     if nat_lt longest_line (length bytes) then None
     else if is_skipped bytes then Some line.Skipped
     else words_meaning (words_of space bytes)
+
+-- to read the line may take memory: it means a call with a PIN or with a list
+abbrev pub TakesMemory : Option Line → Type 0
+TakesMemory (Some (line.Called caller made)) = has_pin made || brings_list made ≡ true
+TakesMemory others = ⊥

@@ -1,8 +1,8 @@
-ghost use Rattle.std.specs.Prelude.{◌≡◌, ◌≤◌, ◌⊎◌, ℕ, List, Option, Some, None};
-ghost use Rattle.std.specs.Prelude.{Err, IfOk, IfErr, IsAscii, length};
+ghost use Rattle.std.specs.Prelude.{◌≡◌, ◌≤◌, ◌⊎◌, ◌||◌, ℕ, Bool, true, false, List};
+ghost use Rattle.std.specs.Prelude.{Option, Some, None, Ok, Err, IfOk, IfErr, IsSome, IsAscii};
 ghost use Rattle.std.specs.List.{list_all};
 ghost use Rattle.std.specs.Result.{result_ok};
-ghost use Rattle.std.specs.Char.{is_ascii_digit};
+ghost use Rattle.std.specs.Char.{is_ascii_digit, is_ascii_hexdigit};
 ghost use Rattle.std.specs.Str.Parse.{AllDigits};
 ghost use Rattle.ck_script.specs.Arguments.{is_code_digit, has_leading_zero, numeral_value};
 ghost use Rattle.ck_script.specs.Arguments.{number_in, code_number_in, is_dash, bytes_in, pin_in};
@@ -60,6 +60,13 @@ fn are_code_digits(text: &[u8]) -> bool
     text.iter().all(|byte| is_code_digit(*byte))
 }
 
+/// Whether all bytes are hexadecimal digits of either case.
+fn are_hex_digits(text: &[u8]) -> bool
+    ensures { result ≡ list_all is_ascii_hexdigit text.now }
+{
+    text.iter().all(|byte| byte.is_ascii_hexdigit())
+}
+
 /// The number that the digits write, which has no leading zero and is below 2^64.
 #[tactic(auto, using(crate::proofs::DigitLemmas::digits))]
 fn numeral_value(digits: &[u8], base: u32) -> Result<u64, NumberError>
@@ -108,9 +115,11 @@ fn is_dash(text: &[u8]) -> bool
 }
 
 /// Bytes in hexadecimal digits of either case; `-` stands for none.
+#[tactic(auto, using(crate::proofs::DigitLemmas::hex_digits))]
 fn bytes_in(alloc: Global, text: &[u8]) -> Result<Bytes, LineError>
     ensures bytes { IfOk result (λ bytes. bytes_in text.now ≡ Some bytes) }
     ensures bad { IfErr result (λ e. (e ≡ LineError.Memory) ⊎ (bytes_in text.now ≡ None)) }
+    ensures memory { result ≡ Err LineError.Memory → IsSome (bytes_in text.now) }
 {
     if is_dash(text) {
         return Ok(Sequence::new(alloc));
@@ -120,7 +129,8 @@ fn bytes_in(alloc: Global, text: &[u8]) -> Result<Bytes, LineError>
     }
     match hex::decode(alloc, text) {
         Ok(bytes) => Ok(Sequence::from_vec(bytes)),
-        Err(FromHexError::OutOfMemory) => Err(LineError::Memory),
+        // `decode` takes memory before it looks at the digits.
+        Err(FromHexError::OutOfMemory) if are_hex_digits(text) => Err(LineError::Memory),
         Err(_) => Err(LineError::Bad(BadLine::Bytes)),
     }
 }
@@ -140,25 +150,50 @@ pub(crate) trait Argument: Sized {
     // What its text means.
     ghost value_in: { List ℕ → Option Self };
 
+    // Whether the value may take memory.
+    ghost takes_memory: { Bool };
+
     /// The value that the text means.
     fn value_in(alloc: Global, text: &[u8]) -> Result<Self, LineError>
         ensures value { IfOk result (λ value. value_in text.now ≡ Some value) }
-        ensures bad { IfErr result (λ e. (e ≡ LineError.Memory) ⊎ (value_in text.now ≡ None)) };
+        ensures bad { IfErr result (λ e. (e ≡ LineError.Memory) ⊎ (value_in text.now ≡ None)) }
+        ensures memory { result ≡ Err LineError.Memory
+            → (takes_memory ≡ true) × IsSome (value_in text.now) };
+}
+
+/// Both values. That one of them is bad is told before that there is no memory for the other, so
+/// that a bad line is never out of memory.
+pub(crate) fn both<A: Drop, B: Drop>(
+    first: Result<A, LineError>,
+    second: Result<B, LineError>,
+) -> Result<(A, B), LineError>
+    ensures values { IfOk result (λ values.
+        (first ≡ Ok values.0) × (second ≡ Ok values.1)) }
+    ensures error { IfErr result (λ e. (first ≡ Err e) ⊎ (second ≡ Err e)) }
+    ensures memory { result ≡ Err LineError.Memory
+        → IfErr first (λ e. e ≡ LineError.Memory)
+        × IfErr second (λ e. e ≡ LineError.Memory) }
+{
+    match (first, second) {
+        (Ok(first), Ok(second)) => Ok((first, second)),
+        (Err(LineError::Memory), Err(error)) => Err(error),
+        (Err(error), _) | (Ok(_), Err(error)) => Err(error),
+    }
 }
 
 /// The values of two texts.
 pub(crate) fn pair_in<A, B>(alloc: Global, first: &[u8], second: &[u8]) -> Result<(A, B), LineError>
 where
     A: Argument + Drop,
-    B: Argument,
+    B: Argument + Drop,
     ensures values { IfOk result (λ values.
         pair_in A.value_in B.value_in first.now second.now ≡ Some values) }
     ensures bad { IfErr result (λ e. (e ≡ LineError.Memory)
         ⊎ (pair_in A.value_in B.value_in first.now second.now ≡ None)) }
+    ensures memory { result ≡ Err LineError.Memory → (A.takes_memory || B.takes_memory ≡ true)
+        × IsSome (pair_in A.value_in B.value_in first.now second.now) }
 {
-    let first = A::value_in(alloc, first)?;
-    let second = B::value_in(alloc, second)?;
-    Ok((first, second))
+    both(A::value_in(alloc, first), B::value_in(alloc, second))
 }
 
 /// The values of the two words, or the reason given where there are not exactly two.
@@ -169,12 +204,13 @@ pub(crate) fn two_in<A, B>(
 ) -> Result<(A, B), LineError>
 where
     A: Argument + Drop,
-    B: Argument,
+    B: Argument + Drop,
     ensures values { IfOk result (λ values.
         two_in A.value_in B.value_in words.entry ≡ Some values) }
     ensures bad { IfErr result (λ e. (e ≡ LineError.Memory)
         ⊎ (two_in A.value_in B.value_in words.entry ≡ None)) }
-    ensures memory { result ≡ Err LineError.Memory → length words.entry ≡ 2 }
+    ensures memory { result ≡ Err LineError.Memory → (A.takes_memory || B.takes_memory ≡ true)
+        × IsSome (two_in A.value_in B.value_in words.entry) }
 {
     let (first, second) = words.two().ok_or(reason)?;
     pair_in(alloc, first, second)
@@ -182,6 +218,8 @@ where
 
 impl Argument for u64 {
     ghost value_in = { number_in };
+
+    ghost takes_memory = { false };
 
     fn value_in(_alloc: Global, text: &[u8]) -> Result<u64, LineError> {
         Ok(number_in(text)?)
@@ -203,6 +241,8 @@ impl Model for CodeNumber {
 impl Argument for CodeNumber {
     ghost value_in = { code_number_in };
 
+    ghost takes_memory = { false };
+
     fn value_in(_alloc: Global, text: &[u8]) -> Result<CodeNumber, LineError> {
         Ok(CodeNumber(code_number_in(text)?))
     }
@@ -211,6 +251,8 @@ impl Argument for CodeNumber {
 /// A PIN by its bytes, of which its length and its digest are taken.
 impl Argument for Pin {
     ghost value_in = { pin_in };
+
+    ghost takes_memory = { true };
 
     fn value_in(alloc: Global, text: &[u8]) -> Result<Pin, LineError> {
         let bytes = bytes_in(alloc, text)?;
@@ -221,6 +263,8 @@ impl Argument for Pin {
 impl Argument for Bytes {
     ghost value_in = { bytes_in };
 
+    ghost takes_memory = { true };
+
     fn value_in(alloc: Global, text: &[u8]) -> Result<Bytes, LineError> {
         bytes_in(alloc, text)
     }
@@ -228,6 +272,8 @@ impl Argument for Bytes {
 
 impl Argument for Option<u64> {
     ghost value_in = { room_in };
+
+    ghost takes_memory = { false };
 
     fn value_in(_alloc: Global, text: &[u8]) -> Result<Option<u64>, LineError> {
         Ok(room_in(text)?)
@@ -237,6 +283,8 @@ impl Argument for Option<u64> {
 /// A mechanism: `type`, or `type:bytes` with its parameter.
 impl Argument for Mechanism {
     ghost value_in = { mechanism_in };
+
+    ghost takes_memory = { true };
 
     fn value_in(alloc: Global, text: &[u8]) -> Result<Mechanism, LineError> {
         let mut words = Split::new(text, COLON);
@@ -258,6 +306,8 @@ impl Argument for Mechanism {
 impl Argument for Item {
     ghost value_in = { item_in };
 
+    ghost takes_memory = { true };
+
     fn value_in(alloc: Global, text: &[u8]) -> Result<Item, LineError> {
         let words = Split::new(text, EQUALS_SIGN);
         let (CodeNumber(kind), value): (_, Bytes) = two_in(alloc, words, BadLine::Item)?;
@@ -269,6 +319,8 @@ impl Argument for Item {
 /// One query of an attribute: `type:room`.
 impl Argument for AttributeQuery {
     ghost value_in = { query_in };
+
+    ghost takes_memory = { false };
 
     fn value_in(alloc: Global, text: &[u8]) -> Result<AttributeQuery, LineError> {
         let words = Split::new(text, COLON);
@@ -282,21 +334,33 @@ fn list_in<T: Argument + Drop>(alloc: Global, text: &[u8]) -> Result<Sequence<T>
     ensures list { IfOk result (λ list. list_in T.value_in text.now ≡ Some list) }
     ensures bad { IfErr result (λ e. (e ≡ LineError.Memory)
         ⊎ (list_in T.value_in text.now ≡ None)) }
+    ensures memory { result ≡ Err LineError.Memory → IsSome (list_in T.value_in text.now) }
 {
     if is_dash(text) {
         return Ok(Sequence::new(alloc));
     }
     let mut items = Vec::new(alloc);
+    let mut has_memory = true;
     let mut words = Split::new(text, COMMA);
     while let Some(word) = words.next() {
-        let item = T::value_in(alloc, word)?;
-        items.push(item)?;
+        match T::value_in(alloc, word) {
+            Ok(item) => has_memory &= items.push(item).is_ok(),
+            // The words behind it are looked at nevertheless, since one of them may be bad.
+            Err(LineError::Memory) => has_memory = false,
+            Err(bad) => return Err(bad),
+        }
     }
-    Ok(Sequence::from_vec(items))
+    if has_memory {
+        Ok(Sequence::from_vec(items))
+    } else {
+        Err(LineError::Memory)
+    }
 }
 
 impl Argument for Template {
     ghost value_in = { template_in };
+
+    ghost takes_memory = { true };
 
     fn value_in(alloc: Global, text: &[u8]) -> Result<Template, LineError> {
         let items = list_in(alloc, text)?;
@@ -306,6 +370,8 @@ impl Argument for Template {
 
 impl Argument for Sequence<AttributeQuery> {
     ghost value_in = { queries_in };
+
+    ghost takes_memory = { true };
 
     fn value_in(alloc: Global, text: &[u8]) -> Result<Sequence<AttributeQuery>, LineError> {
         list_in(alloc, text)

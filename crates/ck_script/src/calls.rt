@@ -1,12 +1,12 @@
-ghost use Rattle.std.specs.Prelude.{◌≡◌, ◌⊎◌, Some, None, Err, IfOk, IfErr, length};
+ghost use Rattle.std.specs.Prelude.{◌≡◌, ◌⊎◌, ◌||◌, true, Some, None, Err};
+ghost use Rattle.std.specs.Prelude.{IsSome, IsSomeAnd, IfOk, IfErr};
 ghost use Rattle.ck_journal.specs.declared.calls.Call.{Call};
-ghost use Rattle.ck_script.specs.Arities.{arity, HasArguments};
-ghost use Rattle.ck_script.specs.CallNames.{row_named};
+ghost use Rattle.ck_journal.specs.Calls.{brings_list};
 ghost use Rattle.ck_script.specs.Splits.{with_none, with_one};
 ghost use Rattle.ck_script.specs.Arguments.{two_in};
-ghost use Rattle.ck_script.specs.Calls.{three_in, four_in, call_of, call_in};
+ghost use Rattle.ck_script.specs.Calls.{three_in, four_in, call_of, call_in, has_pin};
 
-use crate::arguments::{Argument, CodeNumber, pair_in, two_in};
+use crate::arguments::{Argument, CodeNumber, both, pair_in, two_in};
 use crate::call_names::{Arity, CallName, Function};
 use crate::line_errors::{BadLine, LineError};
 use crate::similar_names::similar_name;
@@ -47,8 +47,8 @@ impl<'a> Arguments<'a> {
             × (with_one A.value_in self.entry.words ≡ Some a) × F.post make a call) }
         ensures bad { IfErr result (λ e. (e ≡ LineError.Memory)
             ⊎ (with_one A.value_in self.entry.words ≡ None)) }
-        ensures memory { result ≡ Err LineError.Memory
-            → length self.entry.words ≡ 1 }
+        ensures memory { result ≡ Err LineError.Memory → (A.takes_memory ≡ true)
+            × IsSome (with_one A.value_in self.entry.words) }
     {
         let count = BadLine::ArgumentCount(self.name, Arity::One);
         let first = self.words.one().ok_or(count)?;
@@ -60,7 +60,7 @@ impl<'a> Arguments<'a> {
     fn two<A, B, F>(self, make: F) -> Result<Call, LineError>
     where
         A: Argument + Drop,
-        B: Argument,
+        B: Argument + Drop,
         F: FnOnce(A, B) -> Call,
         requires { F.IsAlwaysCallable make }
         ensures call { IfOk result (λ call. (a : _) × (b : _)
@@ -68,8 +68,8 @@ impl<'a> Arguments<'a> {
             × F.post make a b call) }
         ensures bad { IfErr result (λ e. (e ≡ LineError.Memory)
             ⊎ (two_in A.value_in B.value_in self.entry.words ≡ None)) }
-        ensures memory { result ≡ Err LineError.Memory
-            → length self.entry.words ≡ 2 }
+        ensures memory { result ≡ Err LineError.Memory → (A.takes_memory || B.takes_memory ≡ true)
+            × IsSome (two_in A.value_in B.value_in self.entry.words) }
     {
         let count = BadLine::ArgumentCount(self.name, Arity::Two);
         let (first, second) = two_in(self.alloc, self.words, count)?;
@@ -81,7 +81,7 @@ impl<'a> Arguments<'a> {
     where
         A: Argument + Drop,
         B: Argument + Drop,
-        C: Argument,
+        C: Argument + Drop,
         F: FnOnce(A, B, C) -> Call,
         requires { F.IsAlwaysCallable make }
         ensures call { IfOk result (λ call. (a : _) × (b : _) × (c : _)
@@ -90,12 +90,14 @@ impl<'a> Arguments<'a> {
         ensures bad { IfErr result (λ e. (e ≡ LineError.Memory)
             ⊎ (three_in A.value_in B.value_in C.value_in self.entry.words ≡ None)) }
         ensures memory { result ≡ Err LineError.Memory
-            → length self.entry.words ≡ 3 }
+            → (A.takes_memory || B.takes_memory || C.takes_memory ≡ true)
+            × IsSome (three_in A.value_in B.value_in C.value_in self.entry.words) }
     {
         let count = BadLine::ArgumentCount(self.name, Arity::Three);
         let (first, second, third) = self.words.three().ok_or(count)?;
-        let (first, second) = pair_in(self.alloc, first, second)?;
-        let third = C::value_in(self.alloc, third)?;
+        let first_two = pair_in(self.alloc, first, second);
+        let third = C::value_in(self.alloc, third);
+        let ((first, second), third) = both(first_two, third)?;
         Ok(make(first, second, third))
     }
 
@@ -105,7 +107,7 @@ impl<'a> Arguments<'a> {
         A: Argument + Drop,
         B: Argument + Drop,
         C: Argument + Drop,
-        D: Argument,
+        D: Argument + Drop,
         F: FnOnce(A, B, C, D) -> Call,
         requires { F.IsAlwaysCallable make }
         ensures call { IfOk result (λ call. (a : _) × (b : _) × (c : _) × (d : _)
@@ -115,12 +117,13 @@ impl<'a> Arguments<'a> {
         ensures bad { IfErr result (λ e. (e ≡ LineError.Memory)
             ⊎ (four_in A.value_in B.value_in C.value_in D.value_in self.entry.words ≡ None)) }
         ensures memory { result ≡ Err LineError.Memory
-            → length self.entry.words ≡ 4 }
+            → IsSome (four_in A.value_in B.value_in C.value_in D.value_in self.entry.words) }
     {
         let count = BadLine::ArgumentCount(self.name, Arity::Four);
         let (first, second, third, fourth) = self.words.four().ok_or(count)?;
-        let (first, second) = pair_in(self.alloc, first, second)?;
-        let (third, fourth) = pair_in(self.alloc, third, fourth)?;
+        let first_two = pair_in(self.alloc, first, second);
+        let last_two = pair_in(self.alloc, third, fourth);
+        let ((first, second), (third, fourth)) = both(first_two, last_two)?;
         Ok(make(first, second, third, fourth))
     }
 }
@@ -132,7 +135,8 @@ fn call_of(arguments: Arguments) -> Result<Call, LineError>
     ensures bad { IfErr result (λ e. (e ≡ LineError.Memory)
         ⊎ (call_of arguments.entry.name.0 arguments.entry.words ≡ None)) }
     ensures memory { result ≡ Err LineError.Memory
-        → length arguments.entry.words ≡ arity arguments.entry.name.0 }
+        → IsSomeAnd (call_of arguments.entry.name.0 arguments.entry.words)
+        (λ call. has_pin call || brings_list call ≡ true) }
 {
     match arguments.name.0 {
         Function::InitToken => arguments.one(|pin| Call::InitToken { pin }),
@@ -258,7 +262,8 @@ pub(crate) fn call_in(alloc: Global, name: &[u8], arguments: Split) -> Result<Ca
     ensures bad { IfErr result (λ e. (e ≡ LineError.Memory)
         ⊎ (call_in name.now arguments.entry ≡ None)) }
     ensures memory { result ≡ Err LineError.Memory
-        → HasArguments (row_named name.now) arguments.entry }
+        → IsSomeAnd (call_in name.now arguments.entry)
+        (λ call. has_pin call || brings_list call ≡ true) }
 {
     match CallName::of(name) {
         Some(name) => call_of(Arguments {
