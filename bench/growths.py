@@ -369,7 +369,7 @@ def check_bad_lines(library):
     faults = []
     for without, line in BAD_LINES:
         answers, wanted = answers_to(library, line), answers_to(library, without)
-        if answers != wanted or answers[0][0] != 2 or answers[2]:
+        if answers != wanted or answers[0][0] != 1 or answers[2]:
             faults.append(f"{line}: {answers}, and {without}: {wanted}")
     return 0, 0, faults
 

@@ -73,25 +73,27 @@ TESTS = {program: program.Tests, rules: program.Tests, recorded_runs: recorded_r
          races: recorded_runs.Files, figures: program.Tests}
 
 # A program whose call of number n takes n * n steps, one that takes as many steps for few calls as
-# for many, and one that takes many behind a long line and where there is no room for a digest; and
-# how many objects speed.py then makes, searches and digests, so that it doesn't take long.
+# for many, and one that takes many behind a long line and for digests, with room for them and
+# without; and how many objects speed.py then makes, searches and digests, so that it doesn't take
+# long.
 SLOW = "exec awk '{ for (i = 0; i < NR * NR; i++) x += i; print 0 }'"
 SLOW_AMONG_FEW = "exec awk 'END { for (i = 0; i < 300000; i++) x += i } { print 0 }'"
 SLOW_FOR_LONG = ("exec awk 'length > 1000000 { is_long = 1 } "
-                 "is_long || / 31$/ { for (i = 0; i < 100000; i++) x += i } { print 0 }'")
+                 "is_long || / 3[12]$/ { for (i = 0; i < 100000; i++) x += i } { print 0 }'")
 FEW_OBJECTS = {"FEWER": 3, "FEW": 10, "MANY": 40, "MOST": 50, "SEARCHES": 40,
                "SEARCHES_OF_MOST": 40, "DIGESTS": 20, "MOST_TRIES": speed.TRIES}
 
 # Times of ever more, and whether they grow as they should; of calls, of these with searches by a
 # label, and with others, and whether those by a label are fast; of a short value and a long one,
-# and whether no copy is made; and of a digest's length and of its refusal, and whether the latter
-# comes early.
+# and whether no copy is made; of a digest's length and of its refusal, and whether the latter comes
+# early; and of its length and of itself, and whether the message is hashed once.
 GROWING_TIMES = [((1, 2.1), True), ((1, 7.9, 62), True), ((1, 2), False), ((1, 8), False),
                  ((4, 4), False), ((1, 4, 8), False), ((2, 4, 16), False)]
 TIMES_OF_SEARCHES = [((1, 1.9, 4), True), ((1, 1, 1.1), True), ((1, 2, 4), False),
                      ((1, 4, 4), False)]
 TIMES_OF_LENGTHS = [((1, 2.9), True), ((4, 3), True), ((1, 3), False)]
 TIMES_OF_DIGESTS = [((3, 4), True), ((3, 2), True), ((3, 4.1), False)]
+TIMES_OF_HASHING = [((2, 5.9), True), ((2, 1), True), ((2, 6), False)]
 
 # Tests in which a right program writes nothing there, so that they pass on one that never does.
 SILENT = {
@@ -649,7 +651,7 @@ def idle_programs(checks):
 
 def slow_programs(checks):
     with tempfile.TemporaryDirectory() as folder, mock.patch.multiple(speed, **FEW_OBJECTS):
-        long_lines = [speed.long_values, speed.early_digests]
+        long_lines = [speed.long_values, speed.early_digests, speed.single_digests]
         others = [test for test in tests_of(speed) if test not in long_lines]
         for text, tests in ((SLOW, others), (SLOW_AMONG_FEW, [speed.even_times]),
                             (SLOW_FOR_LONG, long_lines)):
@@ -660,7 +662,8 @@ def slow_programs(checks):
     for judge_times, examples in ((speed.grows_evenly, GROWING_TIMES),
                                   (speed.is_faster_by_label, TIMES_OF_SEARCHES),
                                   (speed.takes_no_copies, TIMES_OF_LENGTHS),
-                                  (speed.is_told_early, TIMES_OF_DIGESTS)):
+                                  (speed.is_told_early, TIMES_OF_DIGESTS),
+                                  (speed.is_hashed_once, TIMES_OF_HASHING)):
         for times, is_right in examples:
             checks.expect(judge_times(*times) == is_right, f"{judge_times.__name__} of {times}")
     checks.end("a program that takes ever more time for a call, or too much for a few")
