@@ -150,8 +150,8 @@ pub(crate) trait Argument: Sized {
     // What its text means.
     ghost value_in: { List ℕ → Option Self };
 
-    // Whether the value may take memory.
-    ghost takes_memory: { Bool };
+    // Whether the value may take memory, as all do except numbers.
+    ghost takes_memory: { Bool } = { true };
 
     /// The value that the text means.
     fn value_in(alloc: Global, text: &[u8]) -> Result<Self, LineError>
@@ -252,8 +252,6 @@ impl Argument for CodeNumber {
 impl Argument for Pin {
     ghost value_in = { pin_in };
 
-    ghost takes_memory = { true };
-
     fn value_in(alloc: Global, text: &[u8]) -> Result<Pin, LineError> {
         let bytes = bytes_in(alloc, text)?;
         Ok(Pin::of(bytes.as_slice()))
@@ -262,8 +260,6 @@ impl Argument for Pin {
 
 impl Argument for Bytes {
     ghost value_in = { bytes_in };
-
-    ghost takes_memory = { true };
 
     fn value_in(alloc: Global, text: &[u8]) -> Result<Bytes, LineError> {
         bytes_in(alloc, text)
@@ -283,8 +279,6 @@ impl Argument for Option<u64> {
 /// A mechanism: `type`, or `type:bytes` with its parameter.
 impl Argument for Mechanism {
     ghost value_in = { mechanism_in };
-
-    ghost takes_memory = { true };
 
     fn value_in(alloc: Global, text: &[u8]) -> Result<Mechanism, LineError> {
         let mut words = Split::new(text, COLON);
@@ -306,8 +300,6 @@ impl Argument for Mechanism {
 impl Argument for Item {
     ghost value_in = { item_in };
 
-    ghost takes_memory = { true };
-
     fn value_in(alloc: Global, text: &[u8]) -> Result<Item, LineError> {
         let words = Split::new(text, EQUALS_SIGN);
         let (CodeNumber(kind), value): (_, Bytes) = two_in(alloc, words, BadLine::Item)?;
@@ -319,8 +311,6 @@ impl Argument for Item {
 /// One query of an attribute: `type:room`.
 impl Argument for AttributeQuery {
     ghost value_in = { query_in };
-
-    ghost takes_memory = { false };
 
     fn value_in(alloc: Global, text: &[u8]) -> Result<AttributeQuery, LineError> {
         let words = Split::new(text, COLON);
@@ -360,8 +350,6 @@ fn list_in<T: Argument + Drop>(alloc: Global, text: &[u8]) -> Result<Sequence<T>
 impl Argument for Template {
     ghost value_in = { template_in };
 
-    ghost takes_memory = { true };
-
     fn value_in(alloc: Global, text: &[u8]) -> Result<Template, LineError> {
         let items = list_in(alloc, text)?;
         Ok(Template { items })
@@ -370,8 +358,6 @@ impl Argument for Template {
 
 impl Argument for Sequence<AttributeQuery> {
     ghost value_in = { queries_in };
-
-    ghost takes_memory = { true };
 
     fn value_in(alloc: Global, text: &[u8]) -> Result<Sequence<AttributeQuery>, LineError> {
         list_in(alloc, text)
