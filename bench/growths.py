@@ -11,7 +11,7 @@ played as a script: all replies are written, or whole lines at their front, and 
 says that it is out of memory. The same script is played in threads, with `--callers 8`: it is
 summed up, or nothing is written, since there was no memory or no thread. Where anything else comes,
 it is printed, and the status is 1. Bad lines are left out, since they make no call. Some are played
-by themselves: what is bad is told where there is no memory for the other arguments.
+by themselves: what is bad is told also where there is no memory for the arguments.
 
 The calls of each race in crates/ck_races/data are made one after the other, in three ways. By two
 callers of a shared token in turn: where one finds no memory, it knows what it did before and is
@@ -105,14 +105,14 @@ ALIKE = [
     )),
 ]
 
-# Bad lines that take no memory to be parsed, and others, as long and bad for the same reason, that
-# take some before or behind what is bad.
+# Bad lines that take memory for their arguments, each behind the front of a line that is bad for the
+# same reason and takes none, and what fills that up to the same length.
 BAD_LINES = [
-    (f"1 Logout {'x' * 13}", "1 Digest 1 61626364 xx"),
-    (f"1 Logout {'x' * 13}", "1 Digest x 61626364 32"),
-    (f"1 DigestUpdate 1 {'6' * 5}", "1 InitToken 616263646g"),
-    (f"1 DigestUpdate 1 {'6' * 13}", "1 CreateObject 1 3=6162,11=616"),
-    (f"1 DigestUpdate 1 {'6' * 17}", "1 GenerateKey 1 350:6 11=6162 6162"),
+    ("1 Logout ", "x", "1 Digest 1 61626364 xx"),
+    ("1 Logout ", "x", "1 Digest x 61626364 32"),
+    ("1 DigestUpdate 1 ", "6", "1 InitToken 616263646g"),
+    ("1 DigestUpdate 1 ", "6", "1 CreateObject 1 3=6162,11=616"),
+    ("1 DigestUpdate 1 ", "6", "1 GenerateKey 1 350:6 11=6162 6162"),
 ]
 
 # A call that takes no memory itself, and for how many entries the journal takes memory at once.
@@ -355,22 +355,25 @@ def check_marks(library):
 
 
 def answers_to(library, line):
-    """How a line is answered, how often it finds no memory where one growth after the other is
-    refused, and how else it is answered then."""
+    """How a line is answered, how many growths it has, how often it finds no memory where one after
+    the other is refused, and how else it is answered then."""
     script = f"{line}\n".encode()
     plain = play(library, [SCRIPTS], script, 0)
     ends = [play(library, [SCRIPTS], script, growth)[:3] for growth in range(1, plain.growths + 1)]
     others = [ended for ended in ends if ended not in (plain[:3], NO_MEMORY)]
-    return plain[:3], ends.count(NO_MEMORY), others
+    return plain[:3], plain.growths, ends.count(NO_MEMORY), others
 
 
 def check_bad_lines(library):
-    """What is bad is told where there is no memory for what stands before it or behind it."""
+    """What is bad is told also where there is no memory for the arguments."""
     faults = []
-    for without, line in BAD_LINES:
-        answers, wanted = answers_to(library, line), answers_to(library, without)
-        if answers != wanted or answers[0][0] != 1 or answers[2]:
-            faults.append(f"{line}: {answers}, and {without}: {wanted}")
+    for front, filler, line in BAD_LINES:
+        told, growths, lacking, others = answers_to(library, line)
+        wanted, fewer, least, none = answers_to(library, front.ljust(len(line), filler))
+        if (told, lacking, others + none) != (wanted, least, []) or told[0] != 1:
+            faults.append(f"{line}: {told}, {lacking} times without memory, {others}")
+        elif growths <= fewer:
+            faults.append(f"{line}: {growths} growths")
     return 0, 0, faults
 
 
