@@ -3,7 +3,7 @@ ghost use Rattle.std.specs.Borrow.{sem, full_share};
 ghost use Rattle.std.specs.Mem.{type_size};
 ghost use Rattle.std.specs.Ptr.{lies_at, room_at};
 ghost use Rattle.ck_journal.specs.declared.calls.Call.TheVariants as call;
-ghost use Rattle.ck_script.specs.Lines.{meaning, TakesMemory};
+ghost use Rattle.ck_script.specs.Lines.{meaning, ParsingTakesMemory};
 ghost use Rattle.ck_foreign.specs.Calls.{MeansNoCall};
 ghost use Rattle.ck_foreign.specs.MessageCalls.{IsBegin, IsGivenBy, IsMade, IsTakenIn, IsWorkOf};
 ghost use Rattle.ck_foreign.specs.MessageCalls.{NeedsOnlyRoom, given_call, has_begun};
@@ -180,8 +180,8 @@ pub extern "C" fn ospreyrack_verify_update(
     message.give(bytes.map(|bytes| Call::VerifyUpdate { session, bytes }))
 }
 
-/// Gives the call of a line of a script, which stands here without its line end. Where the line
-/// means no call, it gives none.
+/// Gives the call of a line of a script, which stands here without its line end. It gives none
+/// where the line means no call, or where there is no memory to read it.
 #[unsafe(no_mangle)]
 pub extern "C" fn ospreyrack_message_line(
     alloc: Global,
@@ -189,7 +189,7 @@ pub extern "C" fn ospreyrack_message_line(
     line: &[u8],
 ) -> bool
     ensures given { result ≡ true → IsGivenBy line.now message.new.value }
-    ensures none { result ≡ false → MeansNoCall line.now ⊎ TakesMemory (meaning line.now) }
+    ensures none { result ≡ false → MeansNoCall line.now ⊎ ParsingTakesMemory (meaning line.now) }
     ensures unchanged { result ≡ false → message.new.value ≡ message.old.value }
 {
     match Line::parse(alloc, line) {

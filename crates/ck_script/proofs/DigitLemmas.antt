@@ -1,4 +1,4 @@
--- The digits of numbers
+-- The digits of numbers and of bytes
 use Rattle.std.proofs.Common.{◌≡◌, ℕ, ◌+◌, ◌<◌, true, false, List, [], ◌∷◌, length, arith}
 use Rattle.std.proofs.Common.{Option, Some, None, Ok, Err, refl, ◌∙◌}
 use Rattle.std.specs.Prelude.{◌%◌, ◌==◌, ◌≢◌, ◌&&◌, is_some, Result}
@@ -33,7 +33,7 @@ AllDigits-code (c ∷ cs) e =
 
 pub ruleset digits = (AllDigits-decimal, AllDigits-code, IsUtf8-from_ascii)
 
--- ---- hexadecimal digits of bytes: an even number of bytes is decoded where all of them are digits
+-- ---- the digits of bytes: an even number of them is decoded where all are hexadecimal
 
 is_some-hex_digit_value : (c : ℕ) → is_some (hex_digit_value c) ≡ is_ascii_hexdigit c
 is_some-hex_digit_value c = grind (arith, nat_tests)

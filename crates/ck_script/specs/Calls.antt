@@ -97,7 +97,7 @@ abbrev pub call_in : List ℕ → List (List ℕ) → Option Call
 call_in name arguments =
     option_and_then (λ (row : Function × List ℕ). call_of row.0 arguments) (row_named name)
 
--- a call with a PIN, whose bytes take memory
+-- a call with a PIN, whose bytes take memory while its line is read
 abbrev pub has_pin : Call → Bool
 has_pin (call.InitToken pin) = true
 has_pin (call.InitPin session pin) = true

@@ -56,6 +56,6 @@ meaning bytes =
     else words_meaning (words_of space bytes)
 
 -- to read the line may take memory: it means a call with a PIN or with a list
-abbrev pub TakesMemory : Option Line → Type 0
-TakesMemory (Some (line.Called caller made)) = has_pin made || brings_list made ≡ true
-TakesMemory others = ⊥
+abbrev pub ParsingTakesMemory : Option Line → Type 0
+ParsingTakesMemory (Some (line.Called caller made)) = has_pin made || brings_list made ≡ true
+ParsingTakesMemory others = ⊥

@@ -129,7 +129,7 @@ fn bytes_in(alloc: Global, text: &[u8]) -> Result<Bytes, LineError>
     }
     match hex::decode(alloc, text) {
         Ok(bytes) => Ok(Sequence::from_vec(bytes)),
-        // `decode` takes memory before it looks at the digits.
+        // `decode` refuses an odd length, then takes memory, and then looks at the digits.
         Err(FromHexError::OutOfMemory) if are_hex_digits(text) => Err(LineError::Memory),
         Err(_) => Err(LineError::Bad(BadLine::Bytes)),
     }
@@ -150,15 +150,16 @@ pub(crate) trait Argument: Sized {
     // What its text means.
     ghost value_in: { List ℕ → Option Self };
 
-    // Whether the value may take memory, as all do except numbers.
-    ghost takes_memory: { Bool } = { true };
+    // Whether it may take memory to read the value. Only of numbers and rooms it is said that it
+    // doesn't.
+    ghost parsing_takes_memory: { Bool } = { true };
 
     /// The value that the text means.
     fn value_in(alloc: Global, text: &[u8]) -> Result<Self, LineError>
         ensures value { IfOk result (λ value. value_in text.now ≡ Some value) }
         ensures bad { IfErr result (λ e. (e ≡ LineError.Memory) ⊎ (value_in text.now ≡ None)) }
         ensures memory { result ≡ Err LineError.Memory
-            → (takes_memory ≡ true) × IsSome (value_in text.now) };
+            → (parsing_takes_memory ≡ true) × IsSome (value_in text.now) };
 }
 
 /// Both values. That one of them is bad is told before that there is no memory for the other, so
@@ -190,7 +191,8 @@ where
         pair_in A.value_in B.value_in first.now second.now ≡ Some values) }
     ensures bad { IfErr result (λ e. (e ≡ LineError.Memory)
         ⊎ (pair_in A.value_in B.value_in first.now second.now ≡ None)) }
-    ensures memory { result ≡ Err LineError.Memory → (A.takes_memory || B.takes_memory ≡ true)
+    ensures memory { result ≡ Err LineError.Memory
+        → (A.parsing_takes_memory || B.parsing_takes_memory ≡ true)
         × IsSome (pair_in A.value_in B.value_in first.now second.now) }
 {
     both(A::value_in(alloc, first), B::value_in(alloc, second))
@@ -209,7 +211,8 @@ where
         two_in A.value_in B.value_in words.entry ≡ Some values) }
     ensures bad { IfErr result (λ e. (e ≡ LineError.Memory)
         ⊎ (two_in A.value_in B.value_in words.entry ≡ None)) }
-    ensures memory { result ≡ Err LineError.Memory → (A.takes_memory || B.takes_memory ≡ true)
+    ensures memory { result ≡ Err LineError.Memory
+        → (A.parsing_takes_memory || B.parsing_takes_memory ≡ true)
         × IsSome (two_in A.value_in B.value_in words.entry) }
 {
     let (first, second) = words.two().ok_or(reason)?;
@@ -219,7 +222,7 @@ where
 impl Argument for u64 {
     ghost value_in = { number_in };
 
-    ghost takes_memory = { false };
+    ghost parsing_takes_memory = { false };
 
     fn value_in(_alloc: Global, text: &[u8]) -> Result<u64, LineError> {
         Ok(number_in(text)?)
@@ -241,7 +244,7 @@ impl Model for CodeNumber {
 impl Argument for CodeNumber {
     ghost value_in = { code_number_in };
 
-    ghost takes_memory = { false };
+    ghost parsing_takes_memory = { false };
 
     fn value_in(_alloc: Global, text: &[u8]) -> Result<CodeNumber, LineError> {
         Ok(CodeNumber(code_number_in(text)?))
@@ -269,7 +272,7 @@ impl Argument for Bytes {
 impl Argument for Option<u64> {
     ghost value_in = { room_in };
 
-    ghost takes_memory = { false };
+    ghost parsing_takes_memory = { false };
 
     fn value_in(_alloc: Global, text: &[u8]) -> Result<Option<u64>, LineError> {
         Ok(room_in(text)?)
@@ -334,8 +337,13 @@ fn list_in<T: Argument + Drop>(alloc: Global, text: &[u8]) -> Result<Sequence<T>
     let mut words = Split::new(text, COMMA);
     while let Some(word) = words.next() {
         match T::value_in(alloc, word) {
-            Ok(item) => has_memory &= items.push(item).is_ok(),
-            // The words behind it are looked at nevertheless, since one of them may be bad.
+            Ok(item) => {
+                if items.push(item).is_err() {
+                    has_memory = false;
+                }
+            }
+            // The words behind it are read nevertheless, since one of them may be bad. A list that
+            // lacks an item is never given.
             Err(LineError::Memory) => has_memory = false,
             Err(bad) => return Err(bad),
         }

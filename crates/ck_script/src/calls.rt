@@ -47,7 +47,7 @@ impl<'a> Arguments<'a> {
             × (with_one A.value_in self.entry.words ≡ Some a) × F.post make a call) }
         ensures bad { IfErr result (λ e. (e ≡ LineError.Memory)
             ⊎ (with_one A.value_in self.entry.words ≡ None)) }
-        ensures memory { result ≡ Err LineError.Memory → (A.takes_memory ≡ true)
+        ensures memory { result ≡ Err LineError.Memory → (A.parsing_takes_memory ≡ true)
             × IsSome (with_one A.value_in self.entry.words) }
     {
         let count = BadLine::ArgumentCount(self.name, Arity::One);
@@ -68,7 +68,8 @@ impl<'a> Arguments<'a> {
             × F.post make a b call) }
         ensures bad { IfErr result (λ e. (e ≡ LineError.Memory)
             ⊎ (two_in A.value_in B.value_in self.entry.words ≡ None)) }
-        ensures memory { result ≡ Err LineError.Memory → (A.takes_memory || B.takes_memory ≡ true)
+        ensures memory { result ≡ Err LineError.Memory
+            → (A.parsing_takes_memory || B.parsing_takes_memory ≡ true)
             × IsSome (two_in A.value_in B.value_in self.entry.words) }
     {
         let count = BadLine::ArgumentCount(self.name, Arity::Two);
@@ -90,7 +91,7 @@ impl<'a> Arguments<'a> {
         ensures bad { IfErr result (λ e. (e ≡ LineError.Memory)
             ⊎ (three_in A.value_in B.value_in C.value_in self.entry.words ≡ None)) }
         ensures memory { result ≡ Err LineError.Memory
-            → (A.takes_memory || B.takes_memory || C.takes_memory ≡ true)
+            → (A.parsing_takes_memory || B.parsing_takes_memory || C.parsing_takes_memory ≡ true)
             × IsSome (three_in A.value_in B.value_in C.value_in self.entry.words) }
     {
         let count = BadLine::ArgumentCount(self.name, Arity::Three);
@@ -102,6 +103,7 @@ impl<'a> Arguments<'a> {
     }
 
     /// The call that is made of the values of four arguments.
+    // Only C_GenerateKey has four, and its lists may take memory in any case.
     fn four<A, B, C, D, F>(self, make: F) -> Result<Call, LineError>
     where
         A: Argument + Drop,

@@ -1,7 +1,7 @@
 ghost use Rattle.std.specs.Prelude.{◌≡◌, ◌∷◌, ◌<◌, ◌≤◌, ◌⊎◌, [], length, true};
 ghost use Rattle.std.specs.Prelude.{Some, None, Ok, Err, MatchOption, IfSome, IfOk, IfErr};
 ghost use Rattle.ck_script.specs.Lines.{lines_in, caller_in, words_meaning, meaning};
-ghost use Rattle.ck_script.specs.Lines.{is_skipped, longest_line, TakesMemory};
+ghost use Rattle.ck_script.specs.Lines.{is_skipped, longest_line, ParsingTakesMemory};
 
 use crate::arguments::number_in;
 use crate::calls::call_in;
@@ -40,7 +40,7 @@ impl Line {
             → result ≡ Err (LineError.Bad BadLine.TooLong) }
         ensures skipped { length bytes.now ≤ longest_line → is_skipped bytes.now ≡ true
             → result ≡ Ok Line.Skipped }
-        ensures memory { result ≡ Err LineError.Memory → TakesMemory (meaning bytes.now) }
+        ensures memory { result ≡ Err LineError.Memory → ParsingTakesMemory (meaning bytes.now) }
     {
         if bytes.len() > LONGEST_LINE {
             return Err(LineError::Bad(BadLine::TooLong));
@@ -71,7 +71,8 @@ fn caller_in(text: &[u8]) -> Option<u32>
 fn words_meaning(alloc: Global, mut words: Split) -> Result<Line, LineError>
     ensures line { IfOk result (λ line. words_meaning words.entry ≡ Some line) }
     ensures bad { IfErr result (λ e. (e ≡ LineError.Memory) ⊎ (words_meaning words.entry ≡ None)) }
-    ensures memory { result ≡ Err LineError.Memory → TakesMemory (words_meaning words.entry) }
+    ensures memory { result ≡ Err LineError.Memory
+        → ParsingTakesMemory (words_meaning words.entry) }
 {
     let caller = words.next().ok_or(BadLine::NoCall)?;
     let name = words.next().ok_or(BadLine::NoCall)?;

@@ -1,13 +1,13 @@
 use Rattle.std.proofs.Common.{rules, ◌≡◌, ℕ, Option, Some, None, refl}
 use Rattle.ck_journal.specs.declared.calls.Call.{Call}
-use Rattle.ck_script.specs.Lines.{meaning, TakesMemory}
+use Rattle.ck_script.specs.Lines.{meaning, ParsingTakesMemory}
 use Rattle.ck_script.specs.declared.lines.Line.{Line}
 use Rattle.ck_script.specs.declared.lines.Line.TheVariants as line
 use Rattle.ck_foreign.specs.Calls.{IsSame}
 use Rattle.ck_foreign.proofs.modules.Module.line.Goals as goal
 
 -- a line that takes memory to be read means a call
-called : (m : Option Line) → TakesMemory m
+called : (m : Option Line) → ParsingTakesMemory m
     → (caller : ℕ) × (c : Call) × (m ≡ Some (line.Called caller c))
 called None takes = absurd takes
 called (Some line.Skipped) takes = absurd takes
