@@ -194,7 +194,7 @@ def races_in(path):
 def calls_in(case):
     """The calls of a case, each with its reply."""
     steps = [line.split(" -> ", 1) for line in case[1:]]
-    return [step for step in steps if step[0] != "cut" and not step[0].startswith("audit ")]
+    return [step for step in steps if step[0].split(" ")[0] not in ("cut", "journal", "audit")]
 
 
 def is_case_right(ended, name, plain):

@@ -5,11 +5,13 @@ all are at their bounds, which is good, and then one after the other is beyond i
 be told. And the scripts of calls that are measured are played.
 
 The program that plays them is crates/ck_run/out/ck_run, which `rt ci` leaves, or the one that is
-named. What crates/ck_bench/out/ck_bench says of few calls and of many is compared. For each test a
-line is printed that begins with passed or FAILED, and the status is 1 where one failed.
+named. What crates/ck_bench/out/ck_bench says of few calls and of many is compared, and of messages
+and of their hashes. For each test a line is printed that begins with passed or FAILED, and the
+status is 1 where one failed.
 """
 import contextlib
 import copy
+import hmac
 import io
 import os
 import re
@@ -41,6 +43,27 @@ MOST_OF_AUDIT = 8
 # How often ck_bench is run at most until its times are so: one may be longer while the machine does
 # other work, with which caches are shared. A run without times isn't tried again.
 RUNS = 6
+
+# How many times a message is taken in by each of these calls, and how many times as long that may
+# take as to hash it as many times by `sha2` alone: a call that hashes it twice takes twice as long.
+MESSAGES = 30
+MOST_OF_HASHES = 1.5
+MESSAGE = b"a" * 100_000
+SIGNATURE = hmac.digest(b"key", MESSAGE, "sha256").hex()
+FIRST_CALLS = """\
+1 InitToken 31323334
+1 OpenSession 6
+1 CreateObject 1 0=0400000000000000,100=1000000000000000,11=6b6579,2=00,108=01,10a=01
+"""
+TAKING_CALLS = {
+    "a digest": ["DigestInit 1 250", "Digest 1 MESSAGE 32"],
+    "a digest of a piece": ["DigestInit 1 250", "DigestUpdate 1 MESSAGE", "DigestFinal 1 32"],
+    "a signature": ["SignInit 1 251 1", "Sign 1 MESSAGE 32"],
+    "a signature of a piece": ["SignInit 1 251 1", "SignUpdate 1 MESSAGE", "SignFinal 1 32"],
+    "a verification": ["VerifyInit 1 251 1", f"Verify 1 MESSAGE {SIGNATURE}"],
+    "a verification of a piece": [
+        "VerifyInit 1 251 1", "VerifyUpdate 1 MESSAGE", f"VerifyFinal 1 {SIGNATURE}"],
+}
 
 # How often callers ask while the longest histories grow: by three calls for each 25 questions, and
 # behind them each caller asks once more.
@@ -232,6 +255,27 @@ def times_of_calls(tests):
     tests.end("times of few calls and of many, by the built ck_bench")
 
 
+def are_hashed_once(times):
+    """Whether the calls take less than half as long again as to hash their messages."""
+    least = {name: min(tries) for name, tries in times.items()}
+    return all(0 < least.get(name, 0) < MOST_OF_HASHES * least.get(f"{name}, only hashed", 0)
+               for name in TAKING_CALLS)
+
+
+def times_of_messages(tests):
+    """A message that is taken in is hashed once."""
+    text = FIRST_CALLS + "".join(
+        f"#measure {name}\n" + "".join(f"1 {call}\n" for call in calls) * MESSAGES
+        for name, calls in TAKING_CALLS.items()).replace("MESSAGE", MESSAGE.hex())
+    for _ in range(RUNS):
+        times = times_of_sections(text, "hashed")
+        is_right = are_hashed_once(times)
+        if is_right or not times:
+            break
+    tests.expect(is_right, f"ns of {MESSAGES} messages: {times}")
+    tests.end("times of messages and of their hashes, by the built ck_bench")
+
+
 def asks_behind_many_calls(tests):
     """Callers are answered without the lock behind 200,000 calls, too."""
     times = times_of_sections("", "threads", str(ASKS))
@@ -379,6 +423,7 @@ def main(path):
     readings(tests)
     readings_of_module(tests)
     times_of_calls(tests)
+    times_of_messages(tests)
     asks_behind_many_calls(tests)
     counts_of_callers(tests)
     bounds(tests)

@@ -123,8 +123,8 @@ OTHERS = (races.shapes, rules.limits, rules.checks_of_calls, rules.codes, rules.
           rules.numbers_of_pages, rules.functions_of_module, rules.clients_of_module,
           rules.lines_of_answers, rules.links, rules.toolchain, program.threads_of_share,
           figures.readings, figures.counts_of_callers, figures.readings_of_module,
-          figures.times_of_calls, figures.asks_behind_many_calls, figures.bounds,
-          figures.bounds_of_module, figures.sections)
+          figures.times_of_calls, figures.times_of_messages, figures.asks_behind_many_calls,
+          figures.bounds, figures.bounds_of_module, figures.sections)
 
 # What a program of figures says of few calls, of many and of an audit, and whether the times can be
 # those of the calls and of the audit.
@@ -143,6 +143,10 @@ BENCH_TIMES = [
     ("few: 1 ns\nmany: 21 ns\n", False),
     ("", False),
 ]
+
+# What calls that take in messages take, beside 100 ns of only hashing these, and whether that is
+# once.
+TIMES_OF_MESSAGES = [([149], True), ([300, 149], True), ([150], False), ([0], False)]
 
 # Changes of pages, and the test of a right program that must notice each: what stands there, and
 # what stands there then.
@@ -686,9 +690,14 @@ def slow_programs(checks):
 def wrong_times(checks):
     bench = figures.BENCH
     times = [f"{name}: 1 ns\n" for where, name in figures.FIGURES if where == "threads"]
+    messages = [f"{name}{what}: 1 ns\n" for name in figures.TAKING_CALLS
+                for what in ("", ", only hashed")]
     with tempfile.TemporaryDirectory() as folder:
         for test, output, is_right in (
                 *((figures.times_of_calls, *it) for it in BENCH_TIMES),
+                (figures.times_of_messages, "".join(messages), True),
+                *((figures.times_of_messages, "".join(messages).replace(it, ""), False)
+                  for it in messages),
                 (figures.asks_behind_many_calls, "".join(times), True),
                 *((figures.asks_behind_many_calls, "".join(times).replace(it, ""), False)
                   for it in times)):
@@ -696,6 +705,11 @@ def wrong_times(checks):
             words = words_of(figures, test, figures.PROGRAM)
             checks.expect((passes if is_right else fails)(words), f"{output}: {words}")
     figures.BENCH = bench
+    once = {line.removesuffix(": 1 ns\n"): [100] for line in messages}
+    for name in figures.TAKING_CALLS:
+        for tries, is_right in TIMES_OF_MESSAGES:
+            times = {**once, name: tries}
+            checks.expect(figures.are_hashed_once(times) == is_right, f"messages: {times}")
     checks.end("a program of figures whose times aren't those of the calls")
 
 

@@ -199,11 +199,13 @@ limits 1 9 8 7
 OTHER_OUTCOMES = b"""\
 1 Nope -> bad script: x
 cut -> a session is open
+journal -> entries 1
 audit largest -> entry 1 is wrong
 """
 OUTCOMES = b"""\
 1 Nope -> bad script: no call has this name
 cut -> entries 0
+journal -> entries 0
 audit largest -> legal
 """
 

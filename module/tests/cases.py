@@ -54,8 +54,8 @@ def key_length(template):
 
 def reason_to_skip(line, reply):
     """Why a line can't be played through C, or None."""
-    if line.startswith("cut") or line.startswith("audit"):
-        return "cuts and audits"
+    if line.split(" ")[0] in ("cut", "journal", "audit"):
+        return "lines on the journal itself"
     if reply.startswith("bad script"):
         return "bad lines"
     words = line.split(" ")

@@ -5,6 +5,8 @@
 //! - `unshared`: a token that isn't shared answers the calls, and then its journal is audited. The
 //!   processor time is written too.
 //! - `locked`: a shared token answers them to its one caller. The processor time is written too.
+//! - `hashed`: a token that isn't shared answers the calls, and behind each section the messages
+//!   that its calls bring are hashed, by `sha2` alone. The processor time of both is written too.
 //! - `threads` and a number: nothing is read. Callers of a shared token, each in a thread of its
 //!   own, ask this many times without the lock, change the token, digest, or wait for the lock.
 //!   What the slowest takes by the clock is written.
@@ -20,7 +22,7 @@ mod times;
 
 use anyhow::bail;
 use ck_shared::Runtime;
-use measures::{measure_locked, measure_unshared};
+use measures::{measure_hashed, measure_locked, measure_unshared};
 use sections::{Section, sections_in};
 use std::alloc::Global;
 use std::env::Env;
@@ -43,6 +45,7 @@ enum Request {
     All,
     Unshared,
     Locked,
+    Hashed,
     Threads(u64),
 }
 
@@ -65,11 +68,12 @@ fn request_of<R: Env + AllocGlobal>(rt: &R) -> anyhow::Result<Request> {
     match (word.as_str(), words.next(), words.next()) {
         ("unshared", None, None) => Ok(Request::Unshared),
         ("locked", None, None) => Ok(Request::Locked),
+        ("hashed", None, None) => Ok(Request::Hashed),
         ("threads", Some(number), None) => match number.as_str().parse() {
             Ok(asks) => Ok(Request::Threads(asks)),
             Err(_) => bail!("{number} is no number of questions"),
         },
-        _ => bail!("the arguments are `unshared`, `locked` or `threads` and a number"),
+        _ => bail!("the arguments are `unshared`, `locked`, `hashed`, or `threads` and a number"),
     }
 }
 
@@ -92,10 +96,12 @@ fn measure_once<R: Clock + CpuClock + Print + Runtime>(
     match request {
         Request::Unshared => measure_unshared(&rt, alloc, sections, Times::Written),
         Request::Locked => measure_locked(rt, alloc, sections, Times::Written),
+        Request::Hashed => measure_hashed(&rt, alloc, sections, Times::Written),
         Request::Threads(asks) => measure_together(rt, alloc, asks, Times::Written),
         Request::All => {
             measure_unshared(&rt, alloc, sections, Times::LeftOut)?;
             measure_locked(rt, alloc, sections, Times::LeftOut)?;
+            measure_hashed(&rt, alloc, sections, Times::LeftOut)?;
             measure_together(rt, alloc, FEW_ASKS, Times::LeftOut)
         }
     }

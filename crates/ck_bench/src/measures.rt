@@ -1,11 +1,12 @@
 //! The sections of a script, whose calls are made of a token that isn't shared, or by its one
-//! caller under the lock.
+//! caller under the lock, and whose messages are also hashed alone.
 use crate::sections::Section;
 use crate::times::Times;
 use anyhow::Result;
 use ck_audit::{Verdict, audit_token};
 use ck_shared::{Caller, CallerWork, Gate, Runtime, TokenId, share};
-use ck_token::{Call, Limits, NoMemory, Reply, Rv, Token};
+use ck_token::{Body, Bytes, Call, Limits, NoMemory, Reply, Rv, Token};
+use sha2::{Digest, Sha256};
 use std::alloc::Global;
 use std::sync::Wait;
 use std::time::CpuClock;
@@ -36,6 +37,20 @@ impl<'a, 'c, K: TokenId, G: Gate<K>, R: Wait> Target for CallerTarget<'a, 'c, K,
     }
 }
 
+/// Answers each call with the SHA-256 digest of the message that it brings.
+#[derive(Drop)]
+struct Hasher;
+
+impl Target for Hasher {
+    fn call(&mut self, alloc: Global, call: Call) -> Result<Reply, NoMemory> {
+        let digest = Sha256::digest(call.taken_bytes());
+        Ok(Reply {
+            rv: Rv::Ok,
+            body: Body::Bytes(Bytes::from_slice(alloc, &digest)?),
+        })
+    }
+}
+
 /// Makes copies of the calls, and says how many were not answered CKR_OK.
 fn make_calls<T: Target>(target: &mut T, alloc: Global, calls: &[Call]) -> Result<u64, NoMemory> {
     let mut refused = 0u64;
@@ -48,16 +63,16 @@ fn make_calls<T: Target>(target: &mut T, alloc: Global, calls: &[Call]) -> Resul
     Ok(refused)
 }
 
-/// Makes the calls of a section, and writes how many they are, how many were refused and, where
+/// Makes these calls, and writes under the name how many they are, how many were refused and, where
 /// times are written, the processor time that they took.
-fn measure_section<R: CpuClock + Print, T: Target>(
+fn measure_calls<R: CpuClock + Print, T: Target>(
     rt: &R,
     alloc: Global,
     target: &mut T,
-    section: &Section,
+    name: &str,
+    calls: &[Call],
     times: Times,
 ) -> Result<()> {
-    let Section { name, calls } = section;
     let before = rt.process_cpu_time()?;
     let refused = make_calls(target, alloc, calls)?;
     let time = rt.process_cpu_time()?.saturating_sub(before);
@@ -74,7 +89,7 @@ fn measure_all<R: CpuClock + Print, T: Target>(
     times: Times,
 ) -> Result<()> {
     for section in sections {
-        measure_section(rt, alloc, target, section, times)?;
+        measure_calls(rt, alloc, target, section.name, &section.calls, times)?;
     }
     Ok(())
 }
@@ -99,6 +114,23 @@ pub(crate) fn measure_unshared<R: CpuClock + Print>(
     let mut token = Token::new(alloc, Limits::largest());
     measure_all(rt, alloc, &mut token, sections, times)?;
     audit(rt, alloc, &token, times)
+}
+
+/// Measures the sections on a new token, and behind each one how long its messages take that are
+/// only hashed. So both are measured while the processor has the same speed.
+pub(crate) fn measure_hashed<R: CpuClock + Print>(
+    rt: &R,
+    alloc: Global,
+    sections: &[Section],
+    times: Times,
+) -> Result<()> {
+    let mut token = Token::new(alloc, Limits::largest());
+    for Section { name, calls } in sections {
+        measure_calls(rt, alloc, &mut token, name, calls, times)?;
+        let name = format!(in alloc; "{name}, only hashed")?;
+        measure_calls(rt, alloc, &mut Hasher, name.as_str(), calls, times)?;
+    }
+    Ok(())
 }
 
 /// What the one caller of a shared token does.

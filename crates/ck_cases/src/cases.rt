@@ -199,6 +199,7 @@ impl<'a> CasePlayer<'a> {
                 self.audit()?;
                 self.cut()
             }
+            Action::Journal => Ok(Outcome::Entries(self.token.entries())),
             Action::Audit(Ok(limits)) => {
                 Ok(Outcome::Audited(self.token.audit(self.alloc, limits)?))
             }
@@ -214,7 +215,7 @@ impl<'a> CasePlayer<'a> {
         };
         let verdict = self.token.audit_taken(self.alloc, &journal)?;
         self.report_verdict(verdict)?;
-        Ok(Outcome::Cut(journal.len()))
+        Ok(Outcome::Entries(journal.len()))
     }
 
     /// Makes the call of a line of a script.

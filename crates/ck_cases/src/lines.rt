@@ -7,6 +7,7 @@
 //! - `1 OpenSession E -> bad script: ..`: a line that is none of a script's, and why.
 //! - `cut -> entries 2`: the token's journal is cut, and this many entries are taken out.
 //! - `cut -> a session is open`: it isn't cut, and why.
+//! - `journal -> entries 8`: the token's journal has this many entries.
 //! - `audit 1 9 9 9 -> legal`: an audit under these limits finds the journal legal.
 //! - `audit 1 9 9 9 -> entry 3 is wrong`: it finds that entry 3 is the first wrong one.
 use crate::limits::{LimitsError, limits_in};
@@ -67,6 +68,8 @@ impl<'a> CaseLine<'a> {
 /// What is done by a line.
 pub(crate) enum Action<'a> {
     Cut,
+    /// Counts the entries of the journal.
+    Journal,
     /// Audits the journal as one of a token of these limits.
     Audit(Result<Limits, LimitsError>),
     /// Makes the call of a line of a script.
@@ -76,12 +79,11 @@ pub(crate) enum Action<'a> {
 impl<'a> Action<'a> {
     /// What a line says that isn't empty and is no comment.
     pub(crate) fn of(text: &'a str) -> Action<'a> {
-        if text == "cut" {
-            return Action::Cut;
-        }
-        match text.strip_prefix("audit ") {
-            Some(limits) => Action::Audit(limits_in(limits, ' ')),
-            None => Action::Call(text),
+        match (text, text.strip_prefix("audit ")) {
+            ("cut", _) => Action::Cut,
+            ("journal", _) => Action::Journal,
+            (_, Some(limits)) => Action::Audit(limits_in(limits, ' ')),
+            (_, None) => Action::Call(text),
         }
     }
 }

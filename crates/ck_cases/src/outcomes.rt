@@ -9,8 +9,8 @@ use std::alloc::Global;
 #[derive(Drop)]
 pub(crate) enum Outcome {
     Replied(Reply),
-    /// This many entries are taken out of the journal.
-    Cut(u64),
+    /// This many entries are in the journal, or are taken out of it.
+    Entries(u64),
     /// The journal isn't cut, since a session is open.
     Uncut,
     Audited(Verdict),
@@ -23,7 +23,7 @@ impl Outcome {
     pub(crate) fn text(&self, alloc: Global) -> Result<String, NoMemory> {
         match self {
             Outcome::Replied(reply) => Ok(reply_line(alloc, reply)?),
-            Outcome::Cut(entries) => Ok(format!(in alloc; "entries {entries}")?),
+            Outcome::Entries(entries) => Ok(format!(in alloc; "entries {entries}")?),
             Outcome::Uncut => {
                 let reason = Uncut::Session;
                 Ok(format!(in alloc; "{reason}")?)

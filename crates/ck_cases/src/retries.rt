@@ -38,6 +38,11 @@ impl RetryingToken {
         self.token = Token::new(alloc, limits);
     }
 
+    /// How many entries the journal has.
+    pub(crate) fn entries(&self) -> u64 {
+        self.token.journal().len()
+    }
+
     /// How many times something found no memory and was made again.
     pub(crate) fn retries(&self) -> u64 {
         self.retries
@@ -45,7 +50,7 @@ impl RetryingToken {
 
     /// Counts a retry. The journal must have this many entries, and be legal.
     fn retry(&mut self, alloc: Global, entries: u64) -> anyhow::Result<()> {
-        let came = self.token.journal().len();
+        let came = self.entries();
         ensure!(
             came == entries,
             "out of memory, and the journal has {came} entries in place of {entries}"
@@ -66,7 +71,7 @@ impl RetryingToken {
         caller: u32,
         call: &Call,
     ) -> anyhow::Result<Reply> {
-        let entries = self.token.journal().len();
+        let entries = self.entries();
         if let Ok(reply) = self.token.call(alloc, caller, copy_of(call)?) {
             return Ok(reply);
         }
@@ -79,7 +84,7 @@ impl RetryingToken {
     pub(crate) fn audit_own(&mut self, alloc: Global) -> anyhow::Result<Verdict>
         ensures { IfOk result (λ found. found ≡ verdict.Legal) }
     {
-        let entries = self.token.journal().len();
+        let entries = self.entries();
         if let Ok(verdict) = audit_token(alloc, &self.token) {
             return Ok(verdict);
         }
@@ -89,7 +94,7 @@ impl RetryingToken {
 
     /// Audits the journal under these limits.
     pub(crate) fn audit(&mut self, alloc: Global, limits: Limits) -> anyhow::Result<Verdict> {
-        let entries = self.token.journal().len();
+        let entries = self.entries();
         if let Ok(verdict) = audit::<Token>(alloc, self.token.journal(), limits) {
             return Ok(verdict);
         }
@@ -103,7 +108,7 @@ impl RetryingToken {
         alloc: Global,
         journal: &Journal,
     ) -> anyhow::Result<Verdict> {
-        let entries = self.token.journal().len();
+        let entries = self.entries();
         let limits = self.token.limits();
         if let Ok(verdict) = audit::<Token>(alloc, journal, limits) {
             return Ok(verdict);
@@ -114,7 +119,7 @@ impl RetryingToken {
 
     /// Cuts the journal and takes it out, where no session is open.
     pub(crate) fn cut(&mut self, alloc: Global) -> anyhow::Result<Option<Journal>> {
-        let entries = self.token.journal().len();
+        let entries = self.entries();
         let mut cut = self.token.cut(alloc);
         if let Err(Uncut::Memory) = cut {
             self.retry(alloc, entries)?;
