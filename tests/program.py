@@ -16,6 +16,7 @@ import socket
 import subprocess
 import sys
 import tempfile
+import threading
 import time
 
 HERE = os.path.dirname(os.path.abspath(__file__))
@@ -66,6 +67,9 @@ MANY = 2_200_000
 ONE_OF_MANY = b"1 GetTokenInfo\n"
 REPLY_TO_EACH = b"0 404 64 1 1\n"
 
+# Such a call of each of eight callers.
+ONE_OF_EIGHT = b"".join(b"%d GetTokenInfo\n" % number for number in range(1, 9))
+
 # How many items or queries of four bytes, and how many labels of five bytes, fill most of the
 # longest line.
 MANY_ITEMS = 1_000_000
@@ -88,8 +92,9 @@ LABELLED_SHORT = [
 # How many bytes a parameter has that fills most of the longest line, how many objects one call
 # finds, and how many answers one call gives.
 LONG_PARAMETER = 2_000_000
-MANY_FOUND = 70_000
+MANY_FOUND = 150_000
 MANY_ANSWERS = 100_000
+LONG_ANSWERS = 20
 
 # How many sessions are opened and closed, with two objects each, before each call is made: more
 # than 2^17 openings and 2^18 creations.
@@ -162,10 +167,10 @@ PACKET = 65_536
 MANY_SHORT = 400_000
 MOST_SLEEPS = 20_000
 
-# How many threads there are at once at least, at some time, where each of eight callers has one. In
-# turn there would be two, and for a moment one that has just ended. And how often this and the
+# How many threads there are at once at some time, where each of eight callers has one. One after
+# the other there would be two, and for a moment one that has just ended. And how often this and the
 # sleeps above are tried at most, since other work of the machine can hold up some of the threads.
-LEAST_THREADS = 5
+THREADS_OF_EIGHT = 9
 TRIES = 3
 
 # Two callers: the first makes six calls, the second two.
@@ -255,11 +260,18 @@ BAD_LINES = [
     (b"1 Logout\t1", TAB),
     (b"1 Logout 1\r2", NOT_DECIMAL),
     (b"1 Logout \xef\xbb\xbf1", NOT_DECIMAL),
+    (b"1 Logout \xc3\x84", NOT_DECIMAL),
+    (b"1 \xd0\x9d\xd0\x90", NO_CALL),
     (b"\xef\xbb1 Logout 1", NO_CALLER),
     (b"\xef\xbb\xbf1 Logout 1", BYTE_ORDER_MARK),
     (b"1 DigestInit 1 250:00:00", NO_MECHANISM),
     (b"1 CreateObject 1 3", NO_TEMPLATE),
     (b"1 GetAttributeValue 1 1 3", NO_QUERIES),
+    # behind a long argument
+    (b"1 InitToken " + b"31" * 100_000 + b"\0", NOT_TEXT),
+    (b"1 InitToken " + b"31" * 100_000 + b"\t31", TAB),
+    (b"1 InitToken " + b"31" * 100_000 + b"  31", TOO_MANY_SPACES),
+    (b"1 InitToken " + b"31" * 100_000 + b"\r", CARRIAGE_RETURN),
 ]
 
 # A line with several faults, and the one that is named: the first in the order of docs/script.md.
@@ -534,7 +546,13 @@ def long_replies(tests):
     replies = (b"0\n0 1\n" + b"".join(b"0 %b\n" % handle for handle in handles)
                + b"0\n0 %b\n0 %b\n" % (b",".join(handles), answers))
     tests.check([], calls, replies, *PLAYED)
-    tests.end("replies with many handles and with many answers")
+    value = b"61" * 1_000_000
+    calls = (b"1 InitToken 31323334\n1 OpenSession 6\n"
+             + b"1 CreateObject 1 0=0000000000000000,11=%b\n" % value
+             + b"1 GetAttributeValue 1 1 %b\n" % b",".join([b"11:1000000"] * LONG_ANSWERS))
+    replies = b"0\n0 1\n0 1\n0 %b\n" % b",".join([b"=" + value] * LONG_ANSWERS)
+    tests.check([], calls, replies, *PLAYED)
+    tests.end("replies with many handles, with many answers and with long ones")
 
 
 def long_history(tests):
@@ -571,15 +589,23 @@ def packets(tests):
 def single_writes(tests):
     """A reply is one write, and so are the two lines of callers: who reads packets gets them
     whole."""
-    script = b"1 InitToken 31323334\n1 GetMechanismList\n1 GetTokenInfo\n"
     mechanisms = b"0 250,251,252,255,256,257,260,261,262,270,271,272,350\n"
-    for words, wanted in (([], [b"0\n", mechanisms, b"0 404 64 0 0\n"]),
-                          (["--callers", "1"], [b"entries 3\naudit ok\n"])):
+    lengths = b"0 " + b",".join([b":0"] * 15_000) + b"\n"
+    script = (b"1 InitToken 31323334\n1 GetMechanismList\n1 GetTokenInfo\n1 OpenSession 6\n"
+              b"1 CreateObject 1 0=0000000000000000\n"
+              b"1 GetAttributeValue 1 1 " + b",".join([b"3:?"] * 15_000) + b"\n")
+    replies = [b"0\n", mechanisms, b"0 404 64 0 0\n", b"0 1\n", b"0 1\n", lengths]
+    for words, wanted in (([], replies), (["--callers", "1"], [b"entries 6\naudit ok\n"])):
         ours, theirs = socket.socketpair(socket.AF_UNIX, socket.SOCK_SEQPACKET)
+        packets_of_run = []
+        # Read while they are written, so that a program that writes many doesn't wait for ever.
+        reader = threading.Thread(target=lambda to=packets_of_run, end=ours: to.extend(
+            iter(lambda: end.recv(PACKET), b"")))
         with ours, theirs:
+            reader.start()
             _, errors, status = tests.run(words, script, stdout=theirs)
             theirs.close()
-            packets_of_run = list(iter(lambda: ours.recv(PACKET), b""))
+            reader.join()
         tests.expect((packets_of_run, errors, status) == (wanted, *PLAYED),
                      f"{words}: {packets_of_run}, {errors}, {status}")
     tests.end("replies are written whole")
@@ -603,6 +629,10 @@ def callers(tests):
         tests.check(words, TWO_CALLERS, b"entries 8\naudit ok\n", *PLAYED)
     tests.check(["--callers", "1"], FIRST_CALLS, b"entries 6\naudit ok\n", *PLAYED)
     tests.check(["--callers", "1"], ONE_OF_MANY * MANY, b"entries %d\naudit ok\n" % MANY, *PLAYED)
+    # long comments make the script longer than any bound
+    comments = (b"#" * LONGEST_LINE + b"\n") * 12
+    tests.check(["--callers", "8"], comments + ONE_OF_EIGHT * (MANY // 8),
+                b"entries %d\naudit ok\n" % MANY, *PLAYED)
     for count in range(1, 9):
         line = b"%d GetTokenInfo\n" % count
         tests.check(["--callers", str(count)], line, b"entries 1\naudit ok\n", *PLAYED)
@@ -630,6 +660,11 @@ def audits(tests):
     tests.check(words, LARGE_OBJECTS + b"1 CloseAllSessions\n", b"entries 67\naudit ok\n", *PLAYED,
                 **short)
     tests.check(words, LARGE_OBJECTS, b"", *NO_MEMORY, **short)
+    # a longer journal is audited, too
+    more = ONE_OF_MANY * 2_000
+    tests.check(words, LARGE_OBJECTS + b"1 CloseAllSessions\n" + more, b"entries 2067\naudit ok\n",
+                *PLAYED, **short)
+    tests.check(words, LARGE_OBJECTS + more, b"", *NO_MEMORY, **short)
     tests.check(words, LARGE_OBJECTS + b"1 CopyObject 1 1 -\n" * 100, b"", *NO_MEMORY, **short)
     tests.end("the journal of callers is audited, and an audit or a call finds no memory for many "
               "objects")
@@ -708,13 +743,13 @@ def count_threads(tests, words, script):
 
 
 def side_by_side(tests):
-    script = b"".join(b"%d GetTokenInfo\n" % (1 + count % 8) for count in range(200_000))
+    script = ONE_OF_EIGHT * 50_000
     for _ in range(TRIES):
         most, end = count_threads(tests, ["--callers", "8"], script)
-        tests.expect(end == (b"entries 200000\naudit ok\n", *PLAYED), f"with eight callers: {end}")
-        if most >= LEAST_THREADS:
+        tests.expect(end == (b"entries 400000\naudit ok\n", *PLAYED), f"with eight callers: {end}")
+        if most == THREADS_OF_EIGHT:
             break
-    tests.expect(most >= LEAST_THREADS, f"with eight callers there are {most} threads at once")
+    tests.expect(most == THREADS_OF_EIGHT, f"with eight callers there are {most} threads at once")
     tests.end("callers have their threads at the same time")
 
 

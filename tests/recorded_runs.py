@@ -292,9 +292,13 @@ class Files(Tests):
     """Tests of a program that is run in a folder with a file `t`."""
 
     def check_file(self, text, words, output, errors, status, **files):
+        self.check_files({"t": text}, words, output, errors, status, **files)
+
+    def check_files(self, texts, words, output, errors, status, **files):
         with tempfile.TemporaryDirectory() as folder:
-            with open(os.path.join(folder, "t"), "wb") as file:
-                file.write(text)
+            for name, text in texts.items():
+                with open(os.path.join(folder, name), "wb") as file:
+                    file.write(text)
             self.check(words, None, output, errors, status, cwd=folder, **files)
 
 
@@ -309,6 +313,12 @@ def reports(tests):
     # a file that is right and one that isn't, each with another after it
     for text, report, status in REPORTS[:2]:
         tests.check_file(text, ["t", "t"], report + report, b"", status)
+    # a wrong one stays wrong behind a right one and before it
+    for names in (["right", "wrong"], ["wrong", "right"], ["right", "wrong", "right"]):
+        texts = {"right": REPORTS[0][0], "wrong": REPORTS[1][0]}
+        told = {"right": REPORTS[0][1].replace(b"t:", b"right:"),
+                "wrong": REPORTS[1][1].replace(b"t:", b"wrong:")}
+        tests.check_files(texts, names, b"".join(told[name] for name in names), b"", 1)
     tests.check_file(b"a\nb", ["t"], b"t: line 1: a: a line is a caller, a call and its arguments\n"
                      b"t: line 2: b: a line is a caller, a call and its arguments\n"
                      b"t: 0 passed, 2 bad\n", b"", 1)

@@ -798,7 +798,9 @@ def calls(tests):
         said = ["no arguments", "1 argument", f"{count} arguments"][min(count, 2)]
         line = f"1 {name}" + " x" * (count + 1)
         program.check_bad_line(tests, line.encode(), f"{name} takes {said}".encode())
-    tests.end("how many arguments each call takes")
+        near = program.NO_CALL + f", the nearest is {name}".encode()
+        program.check_bad_line(tests, f"1 C_{name}x".encode(), near)
+    tests.end("how many arguments each call takes, and that a name near to one's is told")
 
 
 # ---- The token's flags, wrong tries, limits, and queries

@@ -83,16 +83,19 @@ def destructions(count):
     return [f"1 DestroyObject 1 {number + 1}" for number in range(count)]
 
 
-def searches(count, front, end=""):
-    """Calls that search for one of the objects by a template with its number between these."""
-    return [line for number in range(count) for line in (
+def searches(count, front, end="", first=0):
+    """Calls that search for one of the objects by a template with its number between these. They
+    search for this many, from the first."""
+    return [line for number in range(first, first + count) for line in (
         f"1 FindObjectsInit 1 {front}{number:08x}{end}", "1 FindObjects 1 2",
         "1 FindObjectsFinal 1")]
 
 
-def changes(count):
-    """Calls that give these objects the labels that they have."""
-    return [f"1 SetAttributeValue 1 {number + 1} 3={number:08x}" for number in range(count)]
+def changes(count, first=0):
+    """Calls that give these objects labels from this number on, where nothing else is said those
+    that they have."""
+    return [f"1 SetAttributeValue 1 {number + 1} 3={first + number:08x}"
+            for number in range(count)]
 
 
 def copies(count):
@@ -242,15 +245,27 @@ def long_template(count):
     return [f"1 CreateObject 1 0=0000000000000000{',3=61' * count}{',10=61' * count}"]
 
 
+def long_templates(count):
+    """Forty creations that have as many of both together."""
+    return long_template(count // 40) * 40
+
+
+def long_queries(count):
+    """Calls that ask for the lengths of this many values at once, each a few times."""
+    queries = ",".join(["3:?"] * count)
+    return ["1 CreateObject 1 0=0000000000000000", *[f"1 GetAttributeValue 1 1 {queries}"] * 5]
+
+
 def is_faster_by_label(before, with_labels, with_others):
     """Whether searches by a label take less than a third of the time of as many others."""
     return (with_labels - before) * LABEL_PART < with_others - before
 
 
 def label_searches(tests):
-    """A search by a label passes over most objects without reading them, where labels are long or
-    were given anew, where the template begins with another attribute, among keys, also private ones
-    of a user who is logged in, and among many.
+    """A search by a label passes over most objects without reading them, where labels are long,
+    were given anew or were changed, where other objects have been destroyed before, where the
+    template has other attributes, too, among keys, also private ones of a user who is logged in,
+    and among many.
     Each row has calls, the searches behind them by a label, and as many others."""
     made, most = creations(FEW), creations(MOST)
     by_label, by_other = searches(SEARCHES, "3="), searches(SEARCHES, "10=")
@@ -258,7 +273,11 @@ def label_searches(tests):
             (creations(FEW, LONG_FRONT, LONG_END),
              searches(SEARCHES, "3=" + LONG_FRONT, LONG_END), by_other),
             (made, searches(SEARCHES, "0=0000000000000000,3="), by_other),
+            (made, searches(SEARCHES, "0=0000000000000000,1=00,3="), by_other),
+            (made, searches(SEARCHES, "3=", ",0=0000000000000000,1=00"), by_other),
             (made + changes(FEW), by_label, by_other),
+            (made + changes(FEW, FEW), searches(SEARCHES, "3=", first=FEW), by_other),
+            (creations(FEW, "00") + destructions(FEW) + made, by_label, by_other),
             (keys(FEW), by_label, searches(SEARCHES, "102=")),
             ([*LOGIN, *keys(FEW, "1=01,2=01")], by_label, searches(SEARCHES, "102=")),
             (most, searches(SEARCHES_OF_MOST, "3="), searches(SEARCHES_OF_MOST, "10="))):
@@ -299,9 +318,14 @@ EVEN = [
     ("copies of one object", lambda count: creations(1) + copies(count)),
     ("generated keys", generations),
     ("items of two attributes each in a template", long_template),
+    ("items of two attributes each in forty templates", long_templates),
+    ("queries of one call, and their answers", long_queries),
     ("calls of the other kinds", other_calls),
     ("searches that are refused beside objects", refused_searches),
 ]
+
+# Those of them that are few long lines.
+LONG_LINES = long_template, long_templates, long_queries
 
 
 def grows_evenly(*times):
@@ -312,10 +336,10 @@ def grows_evenly(*times):
 
 
 def even_times(tests):
-    """Four times as many take more than twice as long, and less than eight times. A template of
-    fewer items is read too soon to be compared."""
+    """Four times as many take more than twice as long, and less than eight times. A line of fewer
+    items or queries is read too soon to be compared."""
     for what, calls_of in EVEN:
-        counts = (FEW, MANY) if calls_of == long_template else (FEWER, FEW, MANY)
+        counts = (FEW, MANY) if calls_of in LONG_LINES else (FEWER, FEW, MANY)
         times = least_seconds(tests, [calls_of(count) for count in counts], grows_evenly)
         tests.expect(grows_evenly(*times), f"{what}: " + ", ".join(
             f"{count} took {seconds:.3f} s" for count, seconds in zip(counts, times)))
