@@ -44,8 +44,8 @@ MOST_OF_AUDIT = 8
 # other work, with which caches are shared. A run without times isn't tried again.
 RUNS = 6
 
-# How many times a message is taken in by each of these calls, and how many times as long that may
-# take as to hash it as many times by `sha2` alone: a call that hashes it twice takes twice as long.
+# How many times each of these calls is made, and how many times as long they may take as `sha2`
+# alone takes for their messages. Calls that hash each message twice take twice as long.
 MESSAGES = 30
 MOST_OF_HASHES = 1.5
 MESSAGE = b"a" * 100_000

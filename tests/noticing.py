@@ -144,8 +144,7 @@ BENCH_TIMES = [
     ("", False),
 ]
 
-# What calls that take in messages take, beside 100 ns of only hashing these, and whether that is
-# once.
+# Times of calls whose messages take 100 ns to hash, and whether they can have hashed them once.
 TIMES_OF_MESSAGES = [([149], True), ([300, 149], True), ([150], False), ([0], False)]
 
 # Changes of pages, and the test of a right program that must notice each: what stands there, and

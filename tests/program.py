@@ -586,6 +586,11 @@ def packets(tests):
     tests.end("packets are read whole")
 
 
+def read_packets(end, packets):
+    """Adds the packets that come at this end until the other one is closed."""
+    packets.extend(iter(lambda: end.recv(PACKET), b""))
+
+
 def single_writes(tests):
     """A reply is one write, and so are the two lines of callers: who reads packets gets them
     whole."""
@@ -598,9 +603,8 @@ def single_writes(tests):
     for words, wanted in (([], replies), (["--callers", "1"], [b"entries 6\naudit ok\n"])):
         ours, theirs = socket.socketpair(socket.AF_UNIX, socket.SOCK_SEQPACKET)
         packets_of_run = []
-        # Read while they are written, so that a program that writes many doesn't wait for ever.
-        reader = threading.Thread(target=lambda to=packets_of_run, end=ours: to.extend(
-            iter(lambda: end.recv(PACKET), b"")))
+        # They are read while they are written: a program that writes many would wait otherwise.
+        reader = threading.Thread(target=read_packets, args=(ours, packets_of_run))
         with ours, theirs:
             reader.start()
             _, errors, status = tests.run(words, script, stdout=theirs)
@@ -629,7 +633,7 @@ def callers(tests):
         tests.check(words, TWO_CALLERS, b"entries 8\naudit ok\n", *PLAYED)
     tests.check(["--callers", "1"], FIRST_CALLS, b"entries 6\naudit ok\n", *PLAYED)
     tests.check(["--callers", "1"], ONE_OF_MANY * MANY, b"entries %d\naudit ok\n" % MANY, *PLAYED)
-    # long comments make the script longer than any bound
+    # with these comments the script has 83 million bytes
     comments = (b"#" * LONGEST_LINE + b"\n") * 12
     tests.check(["--callers", "8"], comments + ONE_OF_EIGHT * (MANY // 8),
                 b"entries %d\naudit ok\n" % MANY, *PLAYED)

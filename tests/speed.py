@@ -84,16 +84,15 @@ def destructions(count):
 
 
 def searches(count, front, end="", first=0):
-    """Calls that search for one of the objects by a template with its number between these. They
-    search for this many, from the first."""
+    """Calls that search for this many objects, from this number on. Each search is for one, by a
+    template with its number between these."""
     return [line for number in range(first, first + count) for line in (
         f"1 FindObjectsInit 1 {front}{number:08x}{end}", "1 FindObjects 1 2",
         "1 FindObjectsFinal 1")]
 
 
 def changes(count, first=0):
-    """Calls that give these objects labels from this number on, where nothing else is said those
-    that they have."""
+    """Calls that give these objects the labels from this number on: from 0 on, they have them."""
     return [f"1 SetAttributeValue 1 {number + 1} 3={first + number:08x}"
             for number in range(count)]
 
@@ -246,7 +245,7 @@ def long_template(count):
 
 
 def long_templates(count):
-    """Forty creations that have as many of both together."""
+    """Forty creations by as many items together."""
     return long_template(count // 40) * 40
 
 
