@@ -116,6 +116,7 @@ ENDS_OF_CASES = [
 CODE = re.compile(r'\(0x([0-9a-f]+), "(CKR_\w+)"\)')
 MECHANISM = re.compile(r"pub const (\w+): u64 = 0x([0-9a-f]+);")
 QUOTED = re.compile("`([^`]*)`")
+EXPORTED = re.compile(r"^pub use [\w:]+::(\{[^}]*\}|\w+);", re.MULTILINE)
 
 # How the rules of a call begin, with what it is given; and what stands for its checks in them.
 CALL = re.compile(r"^\*\*(\w+)\*\*(?:\(([^)]*)\))?", re.MULTILINE)
@@ -1315,6 +1316,36 @@ def functions_besides_calls(tests):
     tests.end("functions that make no call on the page of programs")
 
 
+def exports_of(crate):
+    """The names that a crate gives to its users."""
+    return {name for names in EXPORTED.findall(read(CRATES, crate, "src", "lib.rt"))
+            for name in re.findall(r"\w+", names)}
+
+
+def names_shown(cell):
+    """The names in a cell: constants, functions, and types, also those that a function or a variant
+    is of. Behind such a type only constants stand for themselves."""
+    owner = None
+    for shown in QUOTED.findall(cell):
+        found = SHOWN.match(shown)
+        owner = found["owner"] or owner
+        if not shown.startswith("."):
+            yield found["name"] if owner is None or found["name"].isupper() else owner
+
+
+def names_of_programs(tests):
+    """A program finds in ck_token what the page of programs names, and audits in ck_audit."""
+    of_token, of_audit = exports_of("ck_token"), exports_of("ck_audit")
+    cells = [cells[0] for heads in ("name | the standard's", "function | makes",
+                                    "function | what it is for") for cells in rows(tests, heads)]
+    for cell in cells:
+        names = {*names_shown(cell)}
+        given = of_audit if "of ck_audit" in cell else of_token
+        tests.expect(names <= given, f"{cell}: these are not exported: {names - given}")
+    tests.expect(len(cells) == 25, f"{len(cells)} rows of names and functions")
+    tests.end("what ck_token exports of the page of programs")
+
+
 def functions_without_ensures():
     """The public functions of libraries that have no clause `ensures`."""
     for folder in sorted(glob.glob(os.path.join(CRATES, "*", "src"))):
@@ -1555,6 +1586,7 @@ def main(path):
     names_of_arguments(tests)
     functions_of_programs(tests)
     functions_besides_calls(tests)
+    names_of_programs(tests)
     functions_without_clauses(tests)
     laws(tests)
     races_of_threads(tests)

@@ -15,7 +15,7 @@ const LENGTH: usize = 1 << 20;
 const CALLS: u32 = 13;
 
 /// How many calls the other caller makes between the work on a message and its call.
-const CALLS_BETWEEN: u32 = 20;
+const CALLS_BETWEEN: u32 = 300;
 
 /// How many times the calls are timed at most.
 const TRIES: u32 = 5;
