@@ -64,6 +64,13 @@ where the arguments are bad or a file can't be read.
 EXAMPLE = HELP[HELP.index(b"  # Bytes"):HELP.index(b"A line 'limits'")]
 EXAMPLE_REPORT = HELP[HELP.index(b"  token.cases: line 5"):HELP.index(b"To play the run")]
 
+# The report on a file of two lines that are no calls.
+NO_CALLS = b"""\
+t: line 1: %b: a line is a caller, a call and its arguments
+t: line 2: %b: a line is a caller, a call and its arguments
+t: 0 passed, 2 bad
+"""
+
 # A file `t`, the report on it that names at most two lines, and the status.
 REPORTS = [
     (b"# A comment.\n1 InitToken 31323334 -> 0\n1 OpenSession 6 -> 0 1\n",
@@ -78,6 +85,8 @@ REPORTS = [
      b"t: line 2: 1 GetMechanismList: got 0 CKR_OK "
      b"250,251,252,255,256,257,260,261,262,270,271,272,350, expected 54\n"
      b"t: 0 passed, 1 differ, 1 without a reply\n", 1),
+    # lines of a case without a reply
+    (b"journal\ncut\naudit largest\n", b"t: 0 passed, 3 without a reply\n", 0),
     # an audit of other limits
     (b"limits 2 9 9 9\n1 InitToken 31323334 -> 0\n1 OpenSession 6 -> 0 1\n"
      b"1 OpenSession 6 -> 0 2\naudit 1 9 9 9 -> legal\n",
@@ -92,11 +101,44 @@ REPORTS = [
     (b"1 Nope -> bad script: x\n",
      b"t: line 1: 1 Nope: got bad script: no call has this name, expected bad script: x\n"
      b"t: 0 passed, 1 differ\n", 1),
+    # bad lines of which something else is recorded
+    (b"1 Nope -> no bad script: x\n1 Nope -> bad\n",
+     b"t: line 1: 1 Nope: no call has this name\nt: line 2: 1 Nope: no call has this name\n"
+     b"t: 0 passed, 2 bad\n", 1),
+    # a body of more than one word, and a code that no call answers with a body
+    (b"1 GetTokenInfo -> 0 4 64 0 1\n1 GetTokenInfo -> 54 4 64\n",
+     b"t: line 1: 1 GetTokenInfo: got 0 CKR_OK 4 64 0 0, expected 0 CKR_OK 4 64 0 1\n"
+     b"t: line 2: 1 GetTokenInfo: got 0 CKR_OK 4 64 0 0, expected 54 4 64\n"
+     b"t: 0 passed, 2 differ\n", 1),
+    # a space behind a reply, and a code in capital letters
+    (b"1 InitToken 31323334 -> 0 \n1 Logout 1 -> B3\n",
+     b"t: line 1: 1 InitToken 31323334: got 0 CKR_OK, expected 0 CKR_OK \n"
+     b"t: line 2: 1 Logout 1: got b3 CKR_SESSION_HANDLE_INVALID, "
+     b"expected B3 CKR_SESSION_HANDLE_INVALID\nt: 0 passed, 2 differ\n", 1),
+    # a second arrow belongs to the reply, and one without spaces is none
+    (b"1 InitToken 31323334 -> 0 -> 0\n1 Logout 1->b3\n",
+     b"t: line 1: 1 InitToken 31323334: got 0 CKR_OK, expected 0 CKR_OK -> 0\n"
+     b"t: line 2: 1 Logout 1->b3: a number is written in decimal digits\n"
+     b"t: 0 passed, 1 differ, 1 bad\n", 1),
+    # words alone that begin lines of a case, and lines of one word with another behind it
+    (b"limits\naudit\n", NO_CALLS % (b"limits", b"audit"), 1),
+    (b"limitslargest\nauditlargest\n", NO_CALLS % (b"limitslargest", b"auditlargest"), 1),
+    (b"cut 1 x\njournal 1 x\n",
+     b"t: line 1: cut 1 x: the caller is a number from 1 to 8\n"
+     b"t: line 2: journal 1 x: the caller is a number from 1 to 8\nt: 0 passed, 2 bad\n", 1),
     (b"limits 65 1 1 1\ncut -> entries 0\n",
      b"t: line 1: limits 65 1 1 1: " + BAD_LIMITS + b"\nt: 1 passed, 1 bad\n", 1),
     # bad limits begin a new case, too
     (b"1 InitToken 31323334 -> 0\nlimits 65 1 1 1\n1 GetTokenInfo -> 0 4 64 0 0\n",
      b"t: line 2: limits 65 1 1 1: " + BAD_LIMITS + b"\nt: 2 passed, 1 bad\n", 1),
+    # with the largest limits, not those of the case before
+    (b"limits 2 9 9 9\n1 GetTokenInfo -> 0 4 2 0 0\n"
+     b"limits 65 1 1 1\n1 GetTokenInfo -> 0 4 64 0 0\n",
+     b"t: line 3: limits 65 1 1 1: " + BAD_LIMITS + b"\nt: 2 passed, 1 bad\n", 1),
+    # a space or a number too many
+    (b"limits largest \nlimits 2 9 9 9 9\n",
+     b"t: line 1: limits largest : " + BAD_LIMITS + b"\nt: line 2: limits 2 9 9 9 9: "
+     + BAD_LIMITS + b"\nt: 0 passed, 2 bad\n", 1),
     (b"audit 65 1 1 1 -> legal\n",
      b"t: line 1: audit 65 1 1 1: " + BAD_LIMITS + b"\nt: 0 passed, 1 bad\n", 1),
     # a reply without a call, and a file without lines
@@ -195,6 +237,29 @@ limits 1 9 8 7
 1 OpenSession 6 -> b1
 """
 
+# Files, the limits with which they are written again, and what is written then: also of a file
+# that begins with a bad line, and of files without a line that is played.
+REWRITTEN = [
+    (b"foo\n1 GetTokenInfo\n", "1,9,8,7",
+     b"limits 1 9 8 7\nfoo\n1 GetTokenInfo -> 0 4 1 0 0\n",
+     b"t: line 1: foo: a line is a caller, a call and its arguments\n"),
+    (b"# x\n\n", "1,9,8,7", b"# x\n\n", b""),
+    (b"", "1,9,8,7", b"", b""),
+    # a bad line of limits gives way to the others
+    (BAD_LIMITS_LINE + b"\n", "2,9,9,9", b"limits 2 9 9 9\n1 GetTokenInfo -> 0 4 2 0 0\n",
+     b"t: line 1: limits 65 1 1 1: " + BAD_LIMITS + b"\n"),
+    # a case without a line of limits, and one with it
+    (b"1 GetTokenInfo\nlimits 3 9 9 9\n1 GetTokenInfo\n", "2,9,9,9",
+     b"limits 2 9 9 9\n1 GetTokenInfo -> 0 4 2 0 0\n" * 2, b""),
+    # three numbers of the largest limits, and all four
+    *((b"journal\n", limits.replace(" ", ","), b"limits %b\njournal -> entries 0\n"
+       % limits.encode(), b"")
+      for limits in ("63 4294967295 4294967295 2147483647", "64 9 4294967295 2147483647",
+                     "64 4294967295 9 2147483647", "64 4294967295 4294967295 9")),
+    (b"journal\n", "64,4294967295,4294967295,2147483647",
+     b"limits largest\njournal -> entries 0\n", b""),
+]
+
 # Lines of which other outcomes are recorded, and the same with those that come.
 OTHER_OUTCOMES = b"""\
 1 Nope -> bad script: x
@@ -268,8 +333,10 @@ BAD_ARGUMENTS = [
     (["--limits", "65,1,1,1", "t"], BAD_OPTION),
     (["--limits", "2 3 4 5", "t"], BAD_OPTION),
     (["--limits", "1,2,3", "t"], BAD_OPTION),
+    (["--limits", " largest", "t"], BAD_OPTION),
     (["--limits", "1,2,3,4,5", "t"], BAD_OPTION),
     (["--replies", "t", "t"], b"error: '--replies' takes one file\n"),
+    (["--limits", "1,2,3", "--replies", "t", "t"], BAD_OPTION),
     # the byte ff
     (["\udcff"], b"error: an argument isn't text in UTF-8\n"),
 ]
@@ -282,6 +349,11 @@ BAD_FILES = [
      b"line 2 ends with a carriage return (CR LF), and lines end with a line feed only"),
     (b"1 Logout 1\r\n",
      b"line 1 ends with a carriage return (CR LF), and lines end with a line feed only"),
+    # the first of several lines is told
+    (b"a\r\nb\r\nc\r\n",
+     b"line 1 ends with a carriage return (CR LF), and lines end with a line feed only"),
+    (b"a\n\xff\n\xff\n", b"line 2 isn't text in UTF-8"),
+    (b"a\r\n\xff\n", b"line 2 isn't text in UTF-8"),
     # a last line without its end
     (b"a\n# x\r",
      b"line 2 ends with a carriage return (CR LF), and lines end with a line feed only"),
@@ -362,6 +434,19 @@ def limits_of_first_case(tests):
     tests.end("other limits of a file without limits of its own")
 
 
+def rewritten(tests):
+    for text, limits, output, errors in REWRITTEN:
+        tests.check_file(text, ["--limits", limits, "--replies", "t"], output, errors,
+                         1 if errors else 0)
+    # a line of limits stays as it is written, where others aren't asked for
+    numbers = b"limits 64 4294967295 4294967295 2147483647\n"
+    tests.check_file(numbers, ["--replies", "t"], numbers, b"", 0)
+    # all that stands behind the first arrow is the reply
+    tests.check_file(b"journal -> entries 0 -> x\n", ["--replies", "t"], b"journal -> entries 0\n",
+                     b"", 0)
+    tests.end("other limits of files that are written again")
+
+
 def many_lines(tests):
     tests.check_file(TOO_MANY_LINES, ["t"], NAMED_LINES + b"t: 0 passed, 101 bad\n", b"", 1)
     tests.check_file(TOO_MANY_LINES, ["--replies", "t"], TOO_MANY_LINES, NAMED_LINES, 1)
@@ -370,6 +455,12 @@ def many_lines(tests):
                      b"t: only counted: 101 more\nt: 0 passed, 101 bad\n", b"", 1)
     errors = first + b"t: only counted: 100 more\n"
     tests.check_file(TOO_MANY_LINES, ["--most", "1", "--replies", "t"], TOO_MANY_LINES, errors, 1)
+    # all of them, also where the number needs more than 32 bits
+    all_named = NAMED_LINES.replace(b"only counted: 1 more",
+                                    b"line 101: a: a line is a caller, a call and its arguments")
+    for most in (MOST_NAMED + 1, 1 << 32, (1 << 64) - 1):
+        tests.check_file(TOO_MANY_LINES, ["--most", str(most), "t"],
+                         all_named + b"t: 0 passed, 101 bad\n", b"", 1)
     tests.end("of 101 bad lines 100 are named")
 
 
@@ -450,6 +541,9 @@ def cuts(tests):
 def arguments(tests):
     for words in (["--help"], ["-h"], ["t", "--help"]):
         tests.check_file(b"foo", words, HELP, b"", 0)
+    # files before an option and behind it
+    text, report, status = REPORTS[0]
+    tests.check_file(text, ["t", "--most", "2", "t"], report + report, b"", status)
     for words, errors in BAD_ARGUMENTS:
         tests.check_file(b"foo", words, b"", errors, 2)
     tests.end("arguments")
@@ -487,6 +581,7 @@ def main(program):
     reports(tests)
     limits(tests)
     limits_of_first_case(tests)
+    rewritten(tests)
     many_lines(tests)
     long_texts(tests)
     audits(tests)
