@@ -286,13 +286,15 @@ static void test_seeded_random(void) {
     end_token();
 }
 
-/* The first random bytes of a seed, also behind a C_GenerateKey without a place for the handle and
- * one with a bad attribute. */
+/* The first random bytes of a seed, also behind a C_GenerateKey without a place for the handle, one
+ * with a bad attribute, and one whose CKA_VALUE_LEN has more bytes than a number. */
 static void first_bytes_of_seed(bool is_behind_bad_call, CK_BYTE *out) {
     CK_MECHANISM generation = mechanism_of(CKM_GENERIC_SECRET_KEY_GEN);
     CK_ULONG key_length = 16;
     CK_OBJECT_HANDLE handle = 0;
     CK_ATTRIBUTE key[] = {{CKA_VALUE_LEN, &key_length, sizeof key_length}, {CKA_LABEL, NULL, 1}};
+    CK_ULONG two_numbers[] = {16, 0};
+    CK_ATTRIBUTE longer = {CKA_VALUE_LEN, two_numbers, sizeof two_numbers};
     setenv("OSPREYRACK_SEED", "5", 1);
     keep_errors();
     CK_SESSION_HANDLE session = begin_token();
@@ -303,6 +305,8 @@ static void first_bytes_of_seed(bool is_behind_bad_call, CK_BYTE *out) {
         EXPECT(CKR_ARGUMENTS_BAD, p11->C_GenerateKey(session, &generation, key, 1, NULL));
         EXPECT(CKR_ATTRIBUTE_VALUE_INVALID,
                p11->C_GenerateKey(session, &generation, key, 2, &handle));
+        EXPECT(CKR_ATTRIBUTE_VALUE_INVALID,
+               p11->C_GenerateKey(session, &generation, &longer, 1, &handle));
     }
     EXPECT(CKR_OK, p11->C_GenerateRandom(session, out, 16));
     end_token();

@@ -1293,11 +1293,11 @@ static void get_many_token_infos(void) {
 }
 
 /* What the call took is given back with the journal that has it. */
-static void check_many_attributes(CK_RV code, long live_before) {
-    check_code(code, CKR_SESSION_HANDLE_INVALID, "a call with many attributes");
-    check(live_bytes - live_before > LONG_TEMPLATE, "the journal has the attributes");
+static void check_long_template(CK_RV code, long live_before) {
+    check_code(code, CKR_SESSION_HANDLE_INVALID, "a call with a long template");
+    check(live_bytes - live_before > LONG_TEMPLATE, "the journal has the template");
     get_many_token_infos();
-    check(live_bytes - live_before < LONG_TEMPLATE, "what the attributes took is given back");
+    check(live_bytes - live_before < LONG_TEMPLATE, "what the template took is given back");
 }
 
 static void test_many_attributes(void) {
@@ -1306,9 +1306,21 @@ static void test_many_attributes(void) {
     begin_library();
     get_many_token_infos();
     long live_before = live_bytes;
-    check_many_attributes(p11->C_FindObjectsInit(1, attributes, ATTRIBUTES), live_before);
-    check_many_attributes(p11->C_CreateObject(1, attributes, ATTRIBUTES, &object), live_before);
-    check_many_attributes(p11->C_GetAttributeValue(1, 1, attributes, ATTRIBUTES), live_before);
+    check_long_template(p11->C_FindObjectsInit(1, attributes, ATTRIBUTES), live_before);
+    check_long_template(p11->C_CreateObject(1, attributes, ATTRIBUTES, &object), live_before);
+    check_long_template(p11->C_GetAttributeValue(1, 1, attributes, ATTRIBUTES), live_before);
+    end_library();
+}
+
+/* The list of values is longer here than that of attributes. */
+static void test_long_value(void) {
+    static CK_BYTE value[LONG_TEMPLATE + LONG_TEMPLATE / 2];
+    CK_ATTRIBUTE label = {CKA_LABEL, value, sizeof value};
+    begin_library();
+    get_many_token_infos();
+    long live_before = live_bytes;
+    check_long_template(p11->C_FindObjectsInit(1, &label, 1), live_before);
+    check_long_template(p11->C_CreateObject(1, &label, 1, &object), live_before);
     end_library();
 }
 
@@ -1506,21 +1518,28 @@ static const char *const lacks[] = {
     "there is no memory for the reply\n", "there is no memory for the last call\n",
 };
 
-enum { LACKS = sizeof lacks / sizeof *lacks };
+/* The first of these are of the file's name and of its text, and the others of lines that are
+ * read. */
+enum { LACKS = sizeof lacks / sizeof *lacks, LACKS_OF_FILE = 2 };
 
 static bool is_told[LACKS];
 
-/* It is one line, and names the variable. */
+/* The variables that name the file and what is read. */
+static const char *variable_of_file, *variable_of_lines;
+
+/* It is one line, and names the variable of what lacks memory. */
 static void check_told(const char *said) {
-    static const char start[] = "ospreyrack: OSPREYRACK_";
-    bool is_known = false;
+    const char *variable = NULL;
+    char start[100];
     for (size_t i = 0; i < LACKS; i++) {
         size_t length = strlen(said), end = strlen(lacks[i]);
-        bool is_this = length >= end && strcmp(said + length - end, lacks[i]) == 0;
-        is_told[i] |= is_this;
-        is_known |= is_this;
+        if (length < end || strcmp(said + length - end, lacks[i]) != 0)
+            continue;
+        is_told[i] = true;
+        variable = i < LACKS_OF_FILE ? variable_of_file : variable_of_lines;
     }
-    check(is_known && strncmp(said, start, strlen(start)) == 0
+    snprintf(start, sizeof start, "ospreyrack: %s: ", variable == NULL ? "none" : variable);
+    check(variable != NULL && strncmp(said, start, strlen(start)) == 0
           && strchr(said, '\n') == said + strlen(said) - 1, said);
 }
 
@@ -1606,6 +1625,7 @@ static void check_expanded_name(void) {
     memcpy(before, journal, sizeof before);
     snprintf(journal, sizeof journal, "of-%ld-and-%ld", (long)getpid(), (long)getpid());
     setenv("OSPREYRACK_JOURNAL", "of-%p-and-%p", 1);
+    variable_of_file = "OSPREYRACK_JOURNAL";
     check_initialize(begin_without_file);
     unsetenv("OSPREYRACK_JOURNAL");
     memcpy(journal, before, sizeof before);
@@ -1614,19 +1634,58 @@ static void check_expanded_name(void) {
 static void test_initialize(void) {
     write_script();
     setenv("OSPREYRACK_SCRIPT", script, 1);
+    variable_of_lines = "OSPREYRACK_SCRIPT";
     has_journal = false;
     check_initialize(begin_without_file);
     has_journal = true;
     setenv("OSPREYRACK_TOKEN", journal, 1);
+    variable_of_file = "OSPREYRACK_TOKEN";
     check_initialize(begin_without_file);
     if (rename(journal, kept) != 0)
         exit(2);
+    variable_of_lines = "OSPREYRACK_TOKEN";
     check_initialize(begin_with_file);
     unsetenv("OSPREYRACK_TOKEN");
+    variable_of_lines = "OSPREYRACK_SCRIPT";
     check_expanded_name();
     unsetenv("OSPREYRACK_SCRIPT");
     for (size_t i = 0; i < LACKS; i++)
         check(is_told[i], lacks[i]);
+}
+
+/* Whether a C_Initialize lacks memory for the call behind the script, which closes the sessions. */
+static bool lacks_last_call(long number, bool *was_refused) {
+    static const char last[] =
+        "ospreyrack: OSPREYRACK_SCRIPT: there is no memory for the last call\n";
+    char said[1000];
+    unlink(journal);
+    keep_errors();
+    refuse_after(number);
+    CK_RV code = p11->C_Initialize(NULL);
+    *was_refused = stop_refusing();
+    read_errors(said, sizeof said);
+    if (code == CKR_OK)
+        EXPECT(CKR_OK, p11->C_Finalize(NULL));
+    return code == CKR_GENERAL_ERROR && strcmp(said, last) == 0;
+}
+
+/* Scripts of many lengths: behind one of them the text of the file has no room for a line. */
+static void test_last_call(void) {
+    enum { MOST_CALLS = 60 };
+    size_t lacking = 0;
+    write_file(script, "", "w");
+    setenv("OSPREYRACK_SCRIPT", script, 1);
+    setenv("OSPREYRACK_JOURNAL", journal, 1);
+    for (int calls = 0; calls < MOST_CALLS; calls++) {
+        bool was_refused = true;
+        write_file(script, "1 GetTokenInfo\n", "a");
+        for (long number = 0; was_refused && number < MOST_GROWTHS; number++)
+            lacking += lacks_last_call(number, &was_refused);
+        CHECK(!was_refused);
+    }
+    check(lacking > 0, "the script's variable is named");
+    unsetenv("OSPREYRACK_SCRIPT");
+    unsetenv("OSPREYRACK_JOURNAL");
 }
 
 /* A reply that isn't the script's is told, whatever there is no memory for. */
@@ -1902,6 +1961,40 @@ static void test_errors_without_signals(void) {
         end_library();
         unsetenv("OSPREYRACK_JOURNAL");
     }
+}
+
+static volatile sig_atomic_t signals_caught;
+
+static void catch_signal(int number) {
+    (void)number;
+    signals_caught++;
+}
+
+/* While a write fails, somebody sends the thread a signal that doesn't come with this error. */
+static void check_other_signal(int error, int number) {
+    struct result ignored;
+    void (*before)(int) = signal(number, catch_signal);
+    unlink(journal);
+    setenv("OSPREYRACK_JOURNAL", journal, 1);
+    begin_library();
+    signals_caught = 0;
+    write_signal = number;
+    write_error = error;
+    EXPECT(CKR_DEVICE_ERROR, get_token_info(&ignored));
+    write_signal = 0;
+    write_error = 0;
+    check(signals_caught == 1, strerror(error));
+    end_library();
+    unsetenv("OSPREYRACK_JOURNAL");
+    signal(number, before);
+}
+
+/* It isn't the write's, and reaches the application behind it. */
+static void test_other_signals(void) {
+    check_other_signal(EFBIG, SIGPIPE);
+    check_other_signal(EPIPE, SIGXFSZ);
+    check_other_signal(ENOSPC, SIGPIPE);
+    check_other_signal(ENOSPC, SIGXFSZ);
 }
 
 /* The signal of a write is taken, although that is interrupted: else it would end the child. */
@@ -2184,6 +2277,7 @@ static const struct test tests[] = {
     {"each call's line is written when it is answered, and at once", test_lines},
     {"lines of all lengths end where there is no memory for their replies", test_line_ends},
     {"each growth of C_Initialize is refused, with a script and a file", test_initialize},
+    {"a script behind which the last call lacks memory", test_last_call},
     {"a script with a wrong reply, and each growth of C_Initialize is refused", test_wrong_reply},
     {"each growth of C_Initialize is refused, with the application's mutexes", test_mutexes},
     {"C_Initialize where the system refuses the library's function for forks", test_registration},
@@ -2205,6 +2299,7 @@ static const struct test tests[] = {
     {"a search whose second piece finds no memory gives the first, by lines",
      test_searches_by_lines},
     {"memory for 200,000 attributes is given back", test_many_attributes},
+    {"memory for a value of 1.5 MiB is given back", test_long_value},
     {"the journal in memory is cut at 1,000 entries", test_thousandth_entry},
     {"a thread's first call without memory", test_first_call},
     {"a query that isn't answered leaves its buffer and its length", test_unanswered_queries},
@@ -2218,6 +2313,8 @@ static const struct test tests[] = {
     {"a call whose line is written in parts", test_short_writes},
     {"a call whose line can't be written, where no error says so", test_empty_writes},
     {"a call whose line can't be written, where no signal says so", test_errors_without_signals},
+    {"a signal that doesn't come with the write's error reaches the application",
+     test_other_signals},
     {"a signal of a write that is taken after an interruption", test_interrupted_wait},
     {"a signal of a write that the application has blocked stays pending", test_blocked_signal},
     {"a file on another device that has the file's descriptor and its number", test_other_device},

@@ -33,6 +33,7 @@ TEMPLATE_INCONSISTENT = "d1"
 KEY_SIZE_RANGE = "62"
 DEVICE_ERROR = "30"
 LONGEST_LINE = 4194304
+BYTES_AT_ONCE = 4096
 LONGEST_PIECE = 1 << 20
 LOG_IN = ["1 InitToken 31323334", "1 OpenSession 6", "1 Login 1 0 31323334",
               "1 InitPIN 1 75736572", "1 Logout 1", "1 Login 1 1 75736572"]
@@ -746,6 +747,19 @@ class Tests:
         self.end()
         for variable in ["SCRIPT", "TOKEN"]:
             self.check_longest_comment(variable)
+
+    def test_parted_arrow(self):
+        """The longest call, where one read of the file ends in its arrow and the next one goes on
+        there."""
+        script, start = self.file("parted.script"), "1 FindObjectsInit 1 3="
+        call = start + "00" * ((LONGEST_LINE - len(start)) // 2)
+        self.checks.equal(len(call), LONGEST_LINE, "the length of the call")
+        for count in range(1, len(" -> ") + 1):
+            comment = "#" * (BYTES_AT_ONCE - count - 1)
+            write(script, f"{comment}\n{call} -> b3\n".encode())
+            self.checks.equal(self.initialize(SCRIPT=script), (0, ""),
+                              f"C_Initialize, with {count} bytes of the arrow in the first read")
+            self.module.finalize()
 
     def test_line_without_end(self):
         """A line that is too long isn't read to its end, and a reply may be longer."""
@@ -1657,8 +1671,9 @@ TESTS = [Tests.test_file, Tests.test_counted_journals, Tests.test_mode, Tests.te
          Tests.test_new_label, Tests.test_no_label, Tests.test_script,
          Tests.test_script_and_journal, Tests.test_only_reply, Tests.test_calls_beside,
          Tests.test_callers, Tests.test_callers_of_child, Tests.test_bad_pointers, Tests.test_quiet,
-         Tests.test_cut_short, Tests.test_longest_line, Tests.test_line_without_end,
-         Tests.test_absent_script, Tests.test_failed_start, Tests.test_bad_variable_and_file,
+         Tests.test_cut_short, Tests.test_longest_line, Tests.test_parted_arrow,
+         Tests.test_line_without_end, Tests.test_absent_script, Tests.test_failed_start,
+         Tests.test_bad_variable_and_file,
          Tests.test_cut_off, Tests.test_beginning, Tests.test_changed, Tests.test_lacking_reply,
          Tests.test_two_processes, Tests.test_second_run, Tests.test_fork,
          Tests.test_fork_that_stays, Tests.test_unseen_child, Tests.test_closed_file,
