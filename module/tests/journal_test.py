@@ -1554,6 +1554,16 @@ class Tests:
         self.checks.equal(caught[0][size:], b"ospreyrack: OSPREYRACK_SEED: the value is a decimal "
                           b"number below 2^64, and not x\n", "the errors")
 
+    def seeded_key(self, count):
+        """The reply that has the value of a generated key of this many bytes, of seed 7."""
+        length = count.to_bytes(8, "little").hex()
+        self.begin(SEED=7)
+        self.say_all(LOG_IN)
+        key = self.module.say(f"1 GenerateKey 1 350 161={length},162=01,103=00")
+        value = self.module.say(f"1 GetAttributeValue 1 {key[2:]} 11:4096")
+        self.end()
+        return value
+
     def test_seeded_bytes(self):
         """The bytes of a seed never change, and its number is decimal."""
         seven, ten, eleven = (self.random_of_start(SEED=seed) for seed in ["7", "010", "0000011"])
@@ -1585,6 +1595,10 @@ class Tests:
         # Each draw begins with a new number of eight bytes.
         later = self.random_of_start(40 + 4096 + 8, SEED=7)[-8:]
         self.checks.equal(drawn, [seven[16:19], seven[32:40], later], "what is drawn later")
+        longest = self.random_of_start(4096, SEED=7).hex()
+        for count in (4095, 4096):
+            self.checks.equal(self.seeded_key(count), f"0 ={longest[:2 * count]}",
+                              f"a key of {count} bytes")
 
     def run_memory(self, kind, cut):
         """By how many bytes the memory of a worker grows, and its last reply."""
