@@ -125,6 +125,7 @@ static const char added_line[] = "1 GetTokenInfo -> 0 4 64 0 0\n";
 static const char *added_file;         /* gets that line before the next lock is taken */
 static int lock_error;                 /* by which each lock of a file fails */
 static int status_error;               /* by which each fstat fails */
+static size_t left_statuses;           /* behind this many that don't */
 static dev_t added_to_device;          /* in what each fstat answers */
 static long reads_until_error = -1;    /* how many reads there are before one that fails; negative
                                           where none does */
@@ -162,10 +163,12 @@ int flock(int file, int operation) {
 
 int fstat(int file, struct stat *status) {
     int result = -1;
-    if (status_error == 0)
+    if (status_error == 0 || left_statuses > 0)
         result = (int)syscall(SYS_fstat, file, status);
     else
         errno = status_error;
+    if (left_statuses > 0)
+        left_statuses--;
     if (result == 0)
         status->st_dev += added_to_device;
     return result;
@@ -2138,7 +2141,7 @@ static void test_parts(void) {
 }
 
 /* C_Initialize where each of these system calls fails: standard error says by what. */
-static void check_fault(int *error, int number) {
+static void check_fault(int *error, int number, const char *what) {
     char said[1000], expected[1000];
     unlink(journal);
     setenv("OSPREYRACK_JOURNAL", journal, 1);
@@ -2149,7 +2152,7 @@ static void check_fault(int *error, int number) {
     read_errors(said, sizeof said);
     unsetenv("OSPREYRACK_JOURNAL");
     check_code(code, CKR_GENERAL_ERROR, "C_Initialize with a fault of the file");
-    snprintf(expected, sizeof expected, "ospreyrack: OSPREYRACK_JOURNAL: %s: %s\n", journal,
+    snprintf(expected, sizeof expected, "ospreyrack: OSPREYRACK_JOURNAL: %s: %s\n", what,
              strerror(number));
     check(strcmp(said, expected) == 0, said);
     if (code == CKR_OK)
@@ -2157,8 +2160,14 @@ static void check_fault(int *error, int number) {
 }
 
 static void test_faults_of_file(void) {
-    check_fault(&lock_error, ENOLCK);
-    check_fault(&status_error, EIO);
+    check_fault(&lock_error, ENOLCK, journal);
+    check_fault(&status_error, EIO, journal);
+    /* The status is read again once the file is locked, and before the file is cut off. */
+    left_statuses = 1;
+    check_fault(&status_error, EIO, journal);
+    left_statuses = 2;
+    check_fault(&status_error, EIO, "the file can't be cut off");
+    CHECK(left_statuses == 0);
 }
 
 /* ---- The end of a process */
