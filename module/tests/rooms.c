@@ -334,6 +334,20 @@ void fill_large(void) {
         large[i] = (CK_BYTE)(i % 251);
 }
 
+/* A last piece of one byte is taken, as where it is given by itself. */
+static void check_last_byte(CK_SESSION_HANDLE session, CK_MECHANISM *mechanism) {
+    CK_BYTE whole[32], parted[32] = {0};
+    length = sizeof whole;
+    EXPECT(CKR_OK, p11->C_DigestInit(session, mechanism));
+    EXPECT(CKR_OK, p11->C_DigestUpdate(session, large, PIECE + 1));
+    EXPECT(CKR_OK, p11->C_DigestFinal(session, whole, &length));
+    EXPECT(CKR_OK, p11->C_DigestInit(session, mechanism));
+    EXPECT(CKR_OK, p11->C_DigestUpdate(session, large, PIECE));
+    EXPECT(CKR_OK, p11->C_DigestUpdate(session, large + PIECE, 1));
+    EXPECT(CKR_OK, p11->C_DigestFinal(session, parted, &length));
+    CHECK(memcmp(whole, parted, sizeof whole) == 0);
+}
+
 static void test_large_digests(void) {
     CK_SESSION_HANDLE session = begin_token();
     CK_MECHANISM sha256 = mechanism_of(CKM_SHA256);
@@ -353,6 +367,7 @@ static void test_large_digests(void) {
     length = sizeof digest;
     EXPECT(CKR_OK, p11->C_DigestFinal(session, digest, &length));
     CHECK(is_hexadecimal(digest, length, sha256_of_large));
+    check_last_byte(session, &sha256);
     end_token();
 }
 
