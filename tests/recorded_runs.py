@@ -141,6 +141,8 @@ REPORTS = [
      + BAD_LIMITS + b"\nt: 0 passed, 2 bad\n", 1),
     (b"audit 65 1 1 1 -> legal\n",
      b"t: line 1: audit 65 1 1 1: " + BAD_LIMITS + b"\nt: 0 passed, 1 bad\n", 1),
+    # where such a line is kept as one that is bad, it passes
+    (b"audit 65 1 1 1 -> bad script: " + BAD_LIMITS + b"\n", b"t: 1 passed\n", 0),
     # a reply without a call, and a file without lines
     (b" -> 0\n",
      b"t: line 1: : a line is a caller, a call and its arguments\nt: 0 passed, 1 bad\n", 1),
