@@ -1,8 +1,8 @@
-/* Refuses growths of memory of the program that it is loaded into before the C library: the one
- * whose number, from 1, stands in REFUSED_GROWTH, and all from the one on whose number stands in
- * REFUSED_FROM. At the end it writes to the file descriptor 3 how many growths there were. With
- * GROWTHS_OF_MAIN it counts those of the main thread alone, whose numbers don't depend on when the
- * other threads run. */
+/* Refuses growths of memory of the program that it is loaded into before the C library: those
+ * whose numbers, from 1, stand in REFUSED_GROWTH and REFUSED_SECOND, and all from the one on whose
+ * number stands in REFUSED_FROM. At the end it writes to the file descriptor 3 how many growths
+ * there were. With GROWTHS_OF_MAIN it counts those of the main thread alone, whose numbers don't
+ * depend on when the other threads run. */
 #include <errno.h>
 #include <stdatomic.h>
 #include <stdio.h>
@@ -14,6 +14,7 @@ void *__libc_malloc(size_t size);
 void *__libc_realloc(void *block, size_t size);
 
 static long refused;
+static long refused_second;
 static long refused_from;
 static long is_of_main;
 static atomic_long growths;
@@ -25,6 +26,7 @@ static long number_in(const char *name) {
 
 __attribute__((constructor)) static void start(void) {
     refused = number_in("REFUSED_GROWTH");
+    refused_second = number_in("REFUSED_SECOND");
     refused_from = number_in("REFUSED_FROM");
     is_of_main = number_in("GROWTHS_OF_MAIN");
     growths = 0;
@@ -45,7 +47,8 @@ static int is_refused(void) {
     if (is_of_main && syscall(SYS_gettid) != getpid())
         return 0;
     long number = ++growths;
-    if (number != refused && (refused_from == 0 || number < refused_from))
+    if (number != refused && number != refused_second
+        && (refused_from == 0 || number < refused_from))
         return 0;
     errno = ENOMEM;
     return 1;

@@ -128,6 +128,12 @@ NO_MEMORY = (3, b"", b"ck_run: out of memory\n")
 CALL = "1 Digest 1 616263 32 -> b3"
 CUT_CALLS = 100
 
+# A short case with a call, an audit and a cut that take memory.
+SHORT_CASE = [LARGEST, "1 InitToken 31323334 -> 0", "1 OpenSession 6 -> 0 1",
+              f"1 CreateObject 1 0=0000000000000000,1=01,3={'61' * 100} -> 0 1",
+              "1 CloseSession 1 -> 0", "audit largest -> legal", "cut -> entries 4"]
+SECOND_TIME = b": out of memory a second time\n"
+
 Ended = collections.namedtuple("Ended", "status output errors growths")
 
 
@@ -139,9 +145,9 @@ def build(folder):
     return library
 
 
-def play(library, words, text, growth, first=0, of_main=False):
-    """One run of a command. Refuses the growth of number `growth`, and each from number `first` on;
-    0 is none. With `of_main` those of the main thread alone are counted."""
+def play(library, words, text, growth, first=0, of_main=False, second=0):
+    """One run of a command. Refuses the growths of the numbers `growth` and `second`, and each from
+    number `first` on; 0 is none. With `of_main` those of the main thread alone are counted."""
     # Standard input, output and error, and descriptor 3, to which growths.c writes how many growths
     # there were.
     files = [tempfile.TemporaryFile() for _ in range(4)]
@@ -149,7 +155,8 @@ def play(library, words, text, growth, first=0, of_main=False):
     files[0].seek(0)
     actions = [(os.POSIX_SPAWN_DUP2, file.fileno(), number) for number, file in enumerate(files)]
     environment = {"LD_PRELOAD": library, "REFUSED_GROWTH": str(growth),
-                   "REFUSED_FROM": str(first), "GROWTHS_OF_MAIN": str(int(of_main))}
+                   "REFUSED_SECOND": str(second), "REFUSED_FROM": str(first),
+                   "GROWTHS_OF_MAIN": str(int(of_main))}
     child = os.posix_spawn(words[0], words, environment, file_actions=actions)
     _, status = os.waitpid(child, 0)
     texts = []
@@ -326,6 +333,50 @@ def check_refused_cut(library):
     return 0, 0, []
 
 
+def check_without_reply(library):
+    """What is made again is counted behind the lines without a reply."""
+    with file_of([CALL, "1 GetTokenInfo"]) as path:
+        plain = play(library, [CASES, path], b"", 0)
+        ends = [play(library, [CASES, path], b"", growth)
+                for growth in range(1, plain.growths + 1)]
+    counts = f"{path}: 1 passed, 1 without a reply\n".encode()
+    faults = [f"a line without a reply: {ended}" for ended in ends
+              if not is_case_right(ended, path, plain)]
+    retries = sum(ended.output.endswith(b" made again\n") for ended in ends)
+    if plain.output != counts or retries == 0:
+        faults.append(f"a line without a reply: {plain}, {retries} times made again")
+    return len(ends), retries, faults
+
+
+def ends_with_second(library, words, growth):
+    """How a program ends that is refused this growth and one behind it, which is each in turn."""
+    most = play(library, words, b"", growth).growths
+    for second in range(growth + 1, most + 1):
+        yield play(library, words, b"", growth, second=second)
+
+
+def check_second(library):
+    """Whatever is made again may find no memory a second time, and is then told in other words.
+    Where two things are made again, both are counted."""
+    with file_of(SHORT_CASE) as path:
+        words = [CASES, path]
+        plain = play(library, words, b"", 0)
+        again = [growth for growth in range(1, plain.growths + 1)
+                 if play(library, words, b"", growth).output.endswith(b" made again\n")]
+        rights = [(0, plain.output[:-1] + b", 2 made again\n"), (1, path.encode() + SECOND_TIME)]
+        twice = [*ends_with_second(library, words, again[0])] if again else []
+        faults = [] if rights[0] in [ended[:2] for ended in twice] else ["nothing made again twice"]
+        for growth in again:
+            for ended in ends_with_second(library, words, growth):
+                if ended[:2] not in rights and not is_case_right(ended, path, plain):
+                    faults.append(f"growth {growth} and another: {ended}")
+                if ended[:2] == rights[1]:
+                    break
+            else:
+                faults.append(f"growth {growth}: none is refused a second time")
+    return len(again), len(again), faults
+
+
 def check_alike(library):
     """Calls have as many growths as one another."""
     faults = []
@@ -443,6 +494,12 @@ def checks_of_counts(library):
     yield check_refused_cut, library
 
 
+def checks_of_retries(library):
+    """What is checked of what is made again: functions, each with its arguments."""
+    yield check_without_reply, library
+    yield check_second, library
+
+
 def checks_of_scripts(library):
     """What is checked of growths of short scripts, and of texts: functions, each with its
     arguments."""
@@ -465,7 +522,8 @@ def main(paths, races, is_short=False):
         for path in paths:
             checks += checks_of_file(library, path, 1 if path in WHOLE else case_step)
         if paths:
-            checks += [*checks_of_counts(library), *checks_of_scripts(library)]
+            checks += [*checks_of_counts(library), *checks_of_retries(library),
+                       *checks_of_scripts(library)]
         results = [made.result() for made in [pool.submit(*check) for check in checks]]
     faults = [fault for _, _, of_case in results for fault in of_case]
     growths = sum(refused for refused, _, _ in results)

@@ -494,19 +494,29 @@ WRONG_ENDS = [
 BAD_ARGUMENTS = '*" xx" | *" x "* | *g | *=616 | *:6" "*'
 
 # A program that plays cases, a script, a script in threads, a race and calls with reserved room as
-# it must, and says that it has this many growths for each line that passes, and one more for a
-# script with a creation and for such a line. Where one of them is refused it first does something
-# else.
+# it must, and says that it has this many growths for each line, one more for a script with a
+# creation and for such a line, and two more where one is refused. There it first does something
+# else, and where a second one is refused, it says that what is made again finds no memory either,
+# or that something else is made again, too.
 GROWING = """\
 shift
 for file; do :; done
 lines=1 more=0
+bare=0 without=""
 [ -f "$file" ] && lines=$(/bin/grep -vc "^limits" "$file")
+[ -f "$file" ] && bare=$(/bin/grep -c "^1 GetTokenInfo$" "$file")
+[ $bare = 0 ] || without=", $bare without a reply"
 script=$(/bin/cat)
 case "$*$script" in 1*Create*) more=1 ;; esac
 case "$script" in BAD_ARGUMENTS) more=1 ;; esac
+[ "${REFUSED_GROWTH:-0}" = 0 ] || more=$((more + 2))
 printf $((%s * lines + more)) >&3
 [ "$REFUSED_GROWTH $REFUSED_FROM" = "0 0" ] || { %s; }
+case "$REFUSED_SECOND" in
+0) ;;
+*7) again=", 2 made again" ;;
+*) echo "$file: out of memory a second time"; exit 1 ;;
+esac
 case "$* $REFUSED_GROWTH" in
 "--callers 1 1" | "--callers 2 1" | "--callers 2 2")
     echo "ck_run: thread not started" >&2; exit 3 ;;
@@ -517,7 +527,7 @@ case "$*" in
 --callers*) echo "entries 1"; echo "audit ok" ;;
 reserve*) ;;
 --help | --nothing) echo "a text" ;;
-*) echo "$file: $lines passed$again" ;;
+*) echo "$file: $((lines - bare)) passed$without$again" ;;
 esac
 """.replace("BAD_ARGUMENTS", BAD_ARGUMENTS)
 MADE_AGAIN = 'again=", 1 made again"'
@@ -535,6 +545,18 @@ COUNTING = [
     ("9", f'[ $(/bin/grep -c "^limits" "$file") = 2 ] || {MADE_AGAIN}', [1, 0, 0]),
     ("9 / lines", MADE_AGAIN, [0, 1, 0]),
     ("""(9 + 9 * $(/bin/grep -c "^cut -> a" "$file"))""", MADE_AGAIN, [0, 0, 1]),
+]
+
+# What a program does where a growth is refused, and how many faults are found of what is made again.
+# First it is right, and then it makes nothing again, counts it before the lines without a reply, and
+# makes all again at each time.
+RETRYING = [
+    (MADE_AGAIN, [0, 0]),
+    ('echo "$file: out of memory"; exit 1', [1, 1]),
+    (f'{MADE_AGAIN}; [ $bare = 0 ] || {{ echo "$file: 1 passed$again$without"; exit; }}',
+     [7, 0]),
+    (f'{MADE_AGAIN}; [ "$REFUSED_SECOND" = 0 ] || {{ echo "$file: $lines passed$again"; exit; }}',
+     [0, 19]),
 ]
 
 # A program that writes texts as it must, and says that it has this many growths. Where one of them
@@ -891,6 +913,13 @@ def faults_of_counts(folder, count, refused):
     return [len(check(*arguments)[2]) for check, *arguments in growths.checks_of_counts("")]
 
 
+def faults_of_retries(folder, refused):
+    """How many faults are found of what a program makes again that has three growths for each line,
+    and does this where one is refused."""
+    growths.CASES = write_program(folder, GROWING % ("3", refused), "/bin/true")
+    return [len(check(*arguments)[2]) for check, *arguments in growths.checks_of_retries("")]
+
+
 def faults_of_scripts(folder, count, refused):
     """How many faults are found of a program's texts that has this many growths, and does this
     where one is refused."""
@@ -917,6 +946,9 @@ def judged_growths(checks):
         for count, refused, faults in COUNTING:
             came = faults_of_counts(folder, count, refused)
             checks.expect(came == faults, f"{count}, {refused}: {came} faults of counts")
+        for refused, faults in RETRYING:
+            came = faults_of_retries(folder, refused)
+            checks.expect(came == faults, f"{refused}: {came} faults of what is made again")
         for count, refused, faults in TOLD:
             came = faults_of_scripts(folder, count, refused)
             checks.expect(came == faults, f"{count}, {refused}: {came} faults of texts")
