@@ -547,9 +547,9 @@ COUNTING = [
     ("""(9 + 9 * $(/bin/grep -c "^cut -> a" "$file"))""", MADE_AGAIN, [0, 0, 1]),
 ]
 
-# What a program does where a growth is refused, and how many faults are found of what is made again.
-# First it is right, and then it makes nothing again, counts it before the lines without a reply, and
-# makes all again at each time.
+# What a program does where a growth is refused, and how many faults are found of what is made
+# again. First it is right, and then it makes nothing again, counts it before the lines without a
+# reply, and makes all again at each time.
 RETRYING = [
     (MADE_AGAIN, [0, 0]),
     ('echo "$file: out of memory"; exit 1', [1, 1]),
@@ -956,7 +956,7 @@ def judged_growths(checks):
         checks.expect(came == [(*ends, 0) for *ends, _ in GROWING_ENDS], f"made again: {came}")
         path = os.path.join(folder, "a.cases")
         write(path, "\n".join(GROWING_CASE) + "\n")
-        for least, least_again, status in ((1, 1, 0), (99, 1, 1), (1, 99, 1)):
+        for least, least_again, status in ((1, 1, 0), (999, 1, 1), (1, 999, 1)):
             came = status_of_short(path, least, least_again)
             checks.expect(came == status, f"{least} growths, {least_again} made again: {came}")
     checks.end("refused growths of a program that is wrong when they are refused")
