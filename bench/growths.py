@@ -105,8 +105,8 @@ ALIKE = [
     )),
 ]
 
-# Bad lines that take memory for their arguments, each behind the front of a line that is bad for the
-# same reason and takes none, and what fills that up to the same length.
+# Bad lines that take memory for their arguments, each behind the front of a line that is bad for
+# the same reason and takes none, and what fills that up to the same length.
 BAD_LINES = [
     ("1 Logout ", "x", "1 Digest 1 61626364 xx"),
     ("1 Logout ", "x", "1 Digest x 61626364 32"),
