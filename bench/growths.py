@@ -22,7 +22,9 @@ for each call. Where there is no memory to share a token, it is shared then. Mem
 second time is a fault, for which ck_races has words of its own. With the argument `shared` only
 these are played.
 
-Calls for which room in the journal is reserved are made while every growth is refused.
+Calls for which room in the journal is reserved are made while every growth is refused. Scripts of
+three callers are played by `run_scripts`: where a growth of a thread is refused, its script isn't
+run, and the others are.
 
 What is made again in a case is counted also where another case follows. What a cut takes out is
 audited, as it was before the cut, which takes memory for each call with bytes; a cut that is
@@ -50,6 +52,8 @@ import concurrent.futures
 import contextlib
 import glob
 import os
+import select
+import signal
 import subprocess
 import sys
 import tempfile
@@ -83,6 +87,9 @@ MEMORY_ERRORS = (
 # These are far fewer where cases, races or growths are passed over.
 LEAST_OF_SHORT = 30_000
 LEAST_MADE_AGAIN = 4_000
+
+# After so many seconds a run is ended, and counts as one that has failed.
+SECONDS = 120
 
 # Calls that create objects, each with bytes that a copy takes memory for.
 CREATED = 50
@@ -119,6 +126,10 @@ BAD_LINES = [
 FREE_CALL = b"1 GetTokenInfo\n"
 SEGMENT = 512
 
+# What ck_races writes of scripts of so many callers, and how many of them had a thread.
+CALLERS = 3
+STARTED = "scripts with a thread: {}\n"
+
 # Words of ck_run and a script for which it writes a text, and what may lack of that.
 TEXTS = [(["--help"], b"", b""), (["--nothing"], b"", b""),
          ([], b"1 Logn 1 1 31\n", b", the nearest is Login")]
@@ -145,6 +156,18 @@ def build(folder):
     return library
 
 
+def status_of(child):
+    """The status with which a process ends. Where it takes too long it is killed."""
+    watched = os.pidfd_open(child)
+    ends = select.poll()
+    ends.register(watched, select.POLLIN)
+    if not ends.poll(1000 * SECONDS):
+        os.kill(child, signal.SIGKILL)
+    os.close(watched)
+    _, status = os.waitpid(child, 0)
+    return os.WEXITSTATUS(status) if os.WIFEXITED(status) else -1
+
+
 def play(library, words, text, growth, first=0, of_main=False, second=0):
     """One run of a command. Refuses the growths of the numbers `growth` and `second`, and each from
     number `first` on; 0 is none. With `of_main` those of the main thread alone are counted."""
@@ -158,15 +181,14 @@ def play(library, words, text, growth, first=0, of_main=False, second=0):
                    "REFUSED_SECOND": str(second), "REFUSED_FROM": str(first),
                    "GROWTHS_OF_MAIN": str(int(of_main))}
     child = os.posix_spawn(words[0], words, environment, file_actions=actions)
-    _, status = os.waitpid(child, 0)
+    status = status_of(child)
     texts = []
     for file in files[1:]:
         file.seek(0)
         texts.append(file.read())
         file.close()
     files[0].close()
-    code = os.WEXITSTATUS(status) if os.WIFEXITED(status) else -1
-    return Ended(code, texts[0], texts[1], int(texts[2] or 0))
+    return Ended(status, texts[0], texts[1], int(texts[2] or 0))
 
 
 def cases_in(path):
@@ -227,6 +249,14 @@ def is_summary_right(ended, plain):
     if ended.output == plain.output:
         return ended.status == 0
     return (ended.status, ended.output) == (3, b"") and ended.errors in THREAD_ERRORS
+
+
+def is_started_right(ended):
+    """At most one script has no thread, or the program itself is out of memory."""
+    if ended.status == 0:
+        rights = [STARTED.format(CALLERS - lacking).encode() for lacking in (0, 1)]
+        return ended.output in rights and ended.errors == b""
+    return (ended.status, ended.output) == (1, b"") and ended.errors in (b"", *MEMORY_ERRORS)
 
 
 def refused_numbers(name, growths, step):
@@ -460,6 +490,19 @@ def check_threads(library, callers):
     return growths, 0, [f"{callers} threads aren't started where {count} growths are refused"]
 
 
+def check_some_threads(library):
+    """Where no thread can be made for one of the scripts, all others are run."""
+    words = [RACES, "scripts"]
+    growths = play(library, words, b"", 0, of_main=True).growths
+    ends = [play(library, words, b"", growth, of_main=True) for growth in range(1, growths + 1)]
+    faults = [f"scripts of {CALLERS} callers: {ended}" for ended in ends
+              if not is_started_right(ended)]
+    lacking = [ended.output for ended in ends].count(STARTED.format(CALLERS - 1).encode())
+    if not CALLERS <= lacking <= 2 * CALLERS:
+        faults.append(f"one of {CALLERS} scripts has no thread {lacking} times")
+    return growths, 0, faults
+
+
 def checks_of_case(library, name, lines, step):
     """What is checked of a case: functions, each with its arguments."""
     yield check_case, library, [CASES], name, lines, len(lines) - 1, step
@@ -485,6 +528,7 @@ def checks_of_races(library, races, step):
         yield check_case, library, [RACES, "in-turn"], name, lines, 1, step
     if races:
         yield check_reserved, library
+        yield check_some_threads, library
 
 
 def checks_of_counts(library):

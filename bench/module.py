@@ -13,8 +13,8 @@ the longest of all is printed below it.
 The module may take no longer than SoftHSM, by one thread and by four. It may take no longer than
 NSS, by one thread and by four, in the rows in which the token's own call takes no longer than NSS's
 by one thread. Its own share of a call without bytes may be at most 100 ns, and the wait at most 200
-us. Where one isn't so, or SoftHSM or NSS isn't there to be compared, that is printed at the end,
-and the status is 1.
+microseconds. Where one isn't so, or SoftHSM or NSS isn't there to be compared, that is printed at
+the end, and the status is 1.
 """
 import collections
 import glob

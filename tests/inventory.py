@@ -6,7 +6,7 @@ text of each file that checks the list has a digest: definitions that the contra
 the prover must refuse, files of recorded calls and of races, files of programs, crates.txt and
 HANDLES, the module's headers, whose conditions the compiler checks, and the tests themselves. And
 it names the checks by their kinds, so that a reader sees which are gone: tests of the crates, of
-the scripts and of the module, crates, comparisons in constant time, types that can be shown, and
+the scripts and of the module, crates, comparisons of secrets, types that can be shown, and
 the lines by which `check` and module/tests/run start them, with their loops and the packages that
 `check` installs. Of each file of a crate it has how many clauses its functions have, private ones
 too, and a digest of them, so that none is dropped or changed unseen.
@@ -44,7 +44,7 @@ SHOWN = re.compile(r"#\[derive\([^)]*\bDebug\b[^)]*\)\]\s*(?:#\[[^\]]*\]\s*)*"
                    r"(?:pub(?:\([a-z]+\))? )?(?:struct|enum) (\w+)")
 SHOWN_BY_HAND = re.compile(r"\bimpl\b[^{;]*?\b(Debug|Display|LowerHex|UpperHex)\s+for\s+"
                            r"([^{]*?)\s*(?:\bwhere\b[^{]*)?\{")
-# What compares secrets, and must do it in constant time.
+# What compares secrets: it mustn't stop at the first byte that differs.
 COMPARISON = re.compile(r"constant_time_eq\(|\.matches\(&?given\)|\.check\(signature\)")
 COMPARING = ("crates/ck_types/src/comparisons.rt", "crates/ck_types/src/pins.rt",
              "crates/ck_mac/src/tags.rt", "crates/ck_mac/src/macs.rt",
@@ -169,8 +169,8 @@ def test_modules():
 
 
 def comparisons():
-    """The lines that compare secrets in constant time, which no contract can say, and the files of
-    these comparisons and of the calls that make them."""
+    """The lines that compare secrets without a stop at the first byte that differs, which no
+    contract can say, and the files of these comparisons and of the calls that make them."""
     lines = [f"{path} {line.strip()}" for path in sources()
              for line in code_of(path).split("\n") if COMPARISON.search(line)]
     return lines + with_digests(COMPARING)
@@ -335,7 +335,7 @@ def inventory():
         "clauses": clauses_in_files(),
         "text of tests": with_digests(texts_of_tests()),
         "crate": crates(),
-        "comparison in constant time": comparisons(),
+        "comparison of secrets": comparisons(),
         "type that can be shown": shown_types(),
         "file of a program": with_digests(program_files()),
         "recorded run": with_digests(files("crates/*/data/*.cases")),

@@ -42,6 +42,7 @@ OF_NO_CLAUSE = re.compile(r"(?:invariant|overflow|nonzero|\w*bounds)|.+-returns\
 # Edits that are refused elsewhere, though each breaks its clause or its law, too: the goal, and why
 # it comes first. Where it is the answer that no longer fits, the goal may be true.
 INVARIANT = "what is answered of the type's invariant doesn't fit, and that is looked at first"
+BASE = "what is answered of a sound base doesn't fit, and that is looked at first"
 ALIKE = "a lemma of cuts goes by the form of this definition, and it is looked at before the law"
 ELSEWHERE = {
     "ck_callers/a_caller_does_not_see_its_own_reply": ("invariant_of-self", INVARIANT),
@@ -59,9 +60,17 @@ ELSEWHERE = {
     "ck_program/every_fault_ends_with_status_7": (
         "returns-then-run-eq0-clause-end_found",
         "the search gives up at this clause, which is looked at before that of the status"),
+    "ck_shared/calls_are_those_of_the_first_caller": (
+        "extend-requires-clause-next",
+        "the answer names the entry with the caller's own number, and it is looked at first"),
     "ck_store/objects_are_lost_where_memory_ends": (
         "invariant_of-self", "it is wanted where the objects are cleared, before the end"),
     "ck_store/setting_an_attribute_also_changes_another_object": ("invariant_of-self", INVARIANT),
+    "ck_token/a_cut_starts_the_logins_over": ("from_base-journal-requires", BASE),
+    "ck_token/a_cut_starts_the_users_tries_over": ("from_base-journal-requires", BASE),
+    "ck_token/a_wrong_pin_behind_another_callers_try_is_not_counted": (
+        "apply-requires-clause-counted",
+        "the answer is of the change that was decided on, and it is looked at first"),
     "ck_token/out_of_memory_after_the_entry": (
         "invariant_of-self", "it is wanted at both ends then, and isn't found at the first one"),
 }

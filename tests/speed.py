@@ -373,8 +373,8 @@ def long_values(tests):
 
 
 def early_digests(tests):
-    """A digest for which there is too little room takes no longer than a call that only asks for
-    its length: the message isn't taken in."""
+    """A digest for which there is too little room takes hardly longer than a call that only asks
+    for its length: the message isn't taken in."""
     message = "61" * LENGTH
     scripts = [["1 DigestInit 1 250", *[f"1 Digest 1 {message} {room}"] * DIGESTS]
                for room in ("?", "31")]

@@ -6,14 +6,15 @@ use Rattle.std.proofs.lemmas.Bool.{ltb-true, ltb-false}
 use Rattle.std.proofs.lemmas.Bool.Decides.{nat_tests}
 use Rattle.std.specs.Prelude.{◌==◌, ◌⊎◌, nat_lt as ltb, Result}
 use Rattle.std.specs.List.{onto_first}
-use Rattle.ck_script.specs.Lines.{line_end, lines_in, longest_line, meaning}
+use Rattle.ck_script.specs.Lines.{line_end, lines_in, longest_line, meaning, ParsingTakesMemory}
 use Rattle.ck_script.specs.declared.line_errors.LineError.{LineError}
 use Rattle.ck_script.specs.declared.line_errors.LineError.TheVariants as error
 use Rattle.ck_script.specs.declared.line_errors.BadLine.{BadLine}
 use Rattle.ck_script.specs.declared.line_errors.BadLine.TheVariants as bad_line
 use Rattle.ck_script.specs.declared.lines.Line.{Line}
+use Rattle.ck_script.specs.declared.lines.Line.TheVariants as line
 use Rattle.ck_plays.specs.Plays.{is_over}
-use Rattle.ck_plays.specs.Players.{onto}
+use Rattle.ck_plays.specs.Players.{onto, IsCall}
 
 -- ---- lines that are too long
 
@@ -43,6 +44,12 @@ pub memory-short : (n : ℕ) (r : Result Line LineError)
     → (longest_line < n → r ≡ Err (error.Bad bad_line.TooLong)) → r ≡ Err error.Memory
     → n ≤ longest_line
 memory-short n r long e = memory-short-by n (ltb longest_line n) r refl long e
+
+-- only a line that means a call takes memory when it is parsed
+pub call-taking : (m : Option Line) → ParsingTakesMemory m → IsCall m
+call-taking None taking = taking
+call-taking (Some line.Skipped) taking = taking
+call-taking (Some (line.Called caller made)) taking = tt
 
 -- a line that is bad means nothing
 pub none-of_bad : (m : Option Line) (e : LineError) (reason : BadLine) → e ≡ error.Bad reason

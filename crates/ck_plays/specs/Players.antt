@@ -1,11 +1,13 @@
 -- Where playing stands between two lines. This mirrors the code: no text is defined by it.
 use Rattle.std.specs.Prelude.{◌≡◌, ◌<◌, ◌≤◌, ℕ, suc, Bool, true, false, List, [], ◌∷◌, ◌++◌, Ok}
-use Rattle.std.specs.Prelude.{Err, length, min}
+use Rattle.std.specs.Prelude.{Option, Some, Err, length, min}
 use Rattle.ck_types.specs.TokenLimits.{Ranges}
 use Rattle.ck_journal.specs.Answers.{answer}
 use Rattle.ck_journal.specs.declared.calls.Call.{Call}
 use Rattle.ck_script.specs.Lines.{lines_in, longest_line}
 use Rattle.ck_script.specs.Replies.{reply_text}
+use Rattle.ck_script.specs.declared.lines.Line.{Line}
+use Rattle.ck_script.specs.declared.lines.Line.TheVariants as line
 use Rattle.ck_journal.specs.TokenStates.{TokenState}
 use Rattle.ck_plays.specs.Devices.{Reading, Writing, wrote, failed_write, IsCount}
 use Rattle.ck_plays.specs.Plays.{AreGood, called, history_after, output_of, Outcome, failed_writes}
@@ -117,6 +119,11 @@ AnswersLine l old number was_written new next is_written =
     (limits : Ranges) (written : Writing) (lines : List (List ℕ))
     → HasPlayed limits written lines old number was_written
     → HasPlayed limits written (lines ++ l ∷ []) new next is_written
+
+-- the line means a call
+abbrev pub IsCall : Option Line → Type 0
+IsCall (Some (line.Called caller call)) = Unit {0}
+IsCall others = ⊥
 
 -- playing ends with this fault at this line, which is over
 abbrev pub StopsAtLine : List ℕ → TokenState → ℕ → (Writing → Type 0) → (Writing → Type 0)

@@ -1,13 +1,14 @@
 //! A token that is played a script, line by line.
 ghost use Rattle.std.specs.Prelude.{◌≡◌, ◌++◌, ◌<◌, ◌≤◌, [], length, take, IfOk, IfErr};
-ghost use Rattle.std.specs.Prelude.{OnOk, OnErr};
+ghost use Rattle.std.specs.Prelude.{OnOk, OnErr, Err};
 ghost use Rattle.ck_journal.specs.Answers.{answer};
 ghost use Rattle.ck_journal.specs.Bases.{empty_base};
 ghost use Rattle.ck_journal.specs.Histories.{start};
+ghost use Rattle.ck_script.specs.Lines.{meaning};
 ghost use Rattle.ck_script.specs.Replies.{reply_text};
 ghost use Rattle.ck_plays.specs.Devices.{Writing, wrote, failed_write};
 ghost use Rattle.ck_plays.specs.Players.{WriteFailed, IsUnwritten, IsLineRefused, IsReplied};
-ghost use Rattle.ck_plays.specs.Players.{AnswersLine};
+ghost use Rattle.ck_plays.specs.Players.{AnswersLine, IsCall};
 ghost use Rattle.ck_plays.specs.Players.{StopsAtLine, AnswersChunk, StopsInChunk, next_number};
 
 use crate::devices::Sink;
@@ -192,7 +193,7 @@ fn answer_call<T: JournaledToken, W: Sink>(
     write_all(writer, text)
 }
 
-/// Answers a line of this number.
+/// Answers a line of this number. One that means no call is never out of memory.
 fn answer_line<T: JournaledToken, W: Sink>(
     token: &mut T,
     text: &mut Vec<u8>,
@@ -206,6 +207,7 @@ fn answer_line<T: JournaledToken, W: Sink>(
         (W.is_written writer.new)) }
     ensures err { IfErr result (StopsAtLine line.now (T.state token.old) number
         (W.is_written writer.old) (W.is_written writer.new)) }
+    ensures memory { result ≡ Err PlayFault.Memory → IsCall (meaning line.now) }
 {
     match Line::parse(alloc, line) {
         Ok(Line::Skipped) => Ok(()),

@@ -5,7 +5,7 @@ use Rattle.ck_script.specs.declared.line_errors.LineError.{LineError}
 use Rattle.ck_script.specs.declared.lines.Line.{Line}
 use Rattle.ck_plays.specs.Devices.{wrote}
 use Rattle.ck_plays.specs.Plays.{output_of}
-use Rattle.ck_plays.proofs.LineLemmas.{memory-short, none-of_bad}
+use Rattle.ck_plays.proofs.LineLemmas.{memory-short, none-of_bad, call-taking}
 use Rattle.ck_plays.proofs.PlayerLemmas.{stopped-memory, stopped-bad, stopped-call}
 use Rattle.ck_plays.proofs.PlayerLemmas.{answered-skipped}
 use Rattle.ck_plays.proofs.PlayerLemmas.{answered-call}
@@ -55,3 +55,9 @@ returns-in-Err-Memory-clause-err g c limits written lines later ended over h =
     (c.in-Err-Memory.is
     ∙ ap (λ (e : LineError). (let r : Result Line LineError = Err e in r))
     c.in-Err-Memory.field-0-is)) h.good h.writer
+
+pub returns-in-Err-Memory-clause-memory : goal.returns-in-Err-Memory-clause-memory
+returns-in-Err-Memory-clause-memory g c = λ e.
+    call-taking _ (c.parse.ensures.memory (c.in-Err-Memory.is
+    ∙ ap (λ (e : LineError). (let r : Result Line LineError = Err e in r))
+    c.in-Err-Memory.field-0-is))
