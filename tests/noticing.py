@@ -245,7 +245,7 @@ PAGES = [
     (rules.numbers_of_pages, "module.md", r"2\^20 \+ 1 of a single-part", "2^20 of a single-part"),
     (rules.numbers_of_pages, "module.md", r"No memory has 2\^47", "No memory has 2^46"),
     (rules.numbers_of_pages, "proofs.md", "140,000 sessions", "14,000 sessions"),
-    (rules.numbers_of_pages, "proofs.md", r"and\n  280,000 objects|and 280,000 objects",
+    (rules.numbers_of_pages, "proofs.md", r"and\s+280,000\s+objects",
      "and 140,000 objects"),
     (rules.numbers_of_pages, "proofs.md", "more than twice and", "more than three and"),
     (rules.functions_of_module, "module.md", "the 20 message-based", "the 19 message-based"),
