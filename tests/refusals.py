@@ -57,6 +57,9 @@ ELSEWHERE = {
     "ck_journal/definition_of_final_signing_passes_over_the_state": ("call_error-alike", ALIKE),
     "ck_journal/definition_of_searches_begins_again": ("search_rest-alike", ALIKE),
     "ck_journal/definition_of_searches_returns_numbers": ("allowed-alike", ALIKE),
+    "ck_plays/a_comment_is_out_of_memory": (
+        "returns-in-Ok-Skipped-clause-ok",
+        "the answer is of a line that ends well, and it is looked at first"),
     "ck_program/every_fault_ends_with_status_7": (
         "returns-then-run-eq0-clause-end_found",
         "the search gives up at this clause, which is looked at before that of the status"),
