@@ -81,10 +81,10 @@ MEMORY_ERRORS = (
     b"ck_cases: out of memory\n",
 )
 
-# With `short` some 41,000 growths are refused. After some 6,600 of them something is made again.
-# These are far fewer where cases, races or growths are passed over.
-LEAST_OF_SHORT = 30_000
-LEAST_MADE_AGAIN = 4_000
+# With `short` some 41,800 growths are refused. After some 6,700 of them something is made again.
+# These are fewer where cases, races or growths are passed over.
+LEAST_OF_SHORT = 38_000
+LEAST_MADE_AGAIN = 6_000
 
 # After so many seconds a run is ended, and counts as one that has failed.
 SECONDS = 120
