@@ -22,7 +22,9 @@ for each call. Where there is no memory to share a token, it is shared then. Mem
 second time is a fault, for which ck_races has words of its own. With the argument `shared` only
 these are played.
 
-Calls for which room in the journal is reserved are made while every growth is refused.
+Calls for which room in the journal is reserved are made while every growth is refused. Scripts of
+three callers are played by `run_scripts`: where a growth of a thread is refused, its script isn't
+run, and the others are.
 
 What is made again in a case is counted also where another case follows. What a cut takes out is
 audited, as it was before the cut, which takes memory for each call with bytes; a cut that is
@@ -123,6 +125,10 @@ BAD_LINES = [
 # A call that takes no memory itself, and for how many entries the journal takes memory at once.
 FREE_CALL = b"1 GetTokenInfo\n"
 SEGMENT = 512
+
+# What ck_races writes of scripts of so many callers, and how many of them had a thread.
+CALLERS = 3
+STARTED = "scripts with a thread: {}\n"
 
 # Words of ck_run and a script for which it writes a text, and what may lack of that.
 TEXTS = [(["--help"], b"", b""), (["--nothing"], b"", b""),
@@ -243,6 +249,14 @@ def is_summary_right(ended, plain):
     if ended.output == plain.output:
         return ended.status == 0
     return (ended.status, ended.output) == (3, b"") and ended.errors in THREAD_ERRORS
+
+
+def is_started_right(ended):
+    """At most one script has no thread, or the program itself is out of memory."""
+    if ended.status == 0:
+        rights = [STARTED.format(CALLERS - lacking).encode() for lacking in (0, 1)]
+        return ended.output in rights and ended.errors == b""
+    return (ended.status, ended.output) == (1, b"") and ended.errors in (b"", *MEMORY_ERRORS)
 
 
 def refused_numbers(name, growths, step):
@@ -476,6 +490,19 @@ def check_threads(library, callers):
     return growths, 0, [f"{callers} threads aren't started where {count} growths are refused"]
 
 
+def check_some_threads(library):
+    """Where no thread can be made for one of the scripts, all others are run."""
+    words = [RACES, "scripts"]
+    growths = play(library, words, b"", 0, of_main=True).growths
+    ends = [play(library, words, b"", growth, of_main=True) for growth in range(1, growths + 1)]
+    faults = [f"scripts of {CALLERS} callers: {ended}" for ended in ends
+              if not is_started_right(ended)]
+    lacking = [ended.output for ended in ends].count(STARTED.format(CALLERS - 1).encode())
+    if not CALLERS <= lacking <= 2 * CALLERS:
+        faults.append(f"one of {CALLERS} scripts has no thread {lacking} times")
+    return growths, 0, faults
+
+
 def checks_of_case(library, name, lines, step):
     """What is checked of a case: functions, each with its arguments."""
     yield check_case, library, [CASES], name, lines, len(lines) - 1, step
@@ -501,6 +528,7 @@ def checks_of_races(library, races, step):
         yield check_case, library, [RACES, "in-turn"], name, lines, 1, step
     if races:
         yield check_reserved, library
+        yield check_some_threads, library
 
 
 def checks_of_counts(library):

@@ -465,6 +465,10 @@ RIGHT_ENDS = [
     (is_script_right, ended(3, b"0\n", NO_MEMORY)),
     (is_summary_right, SUMMARY),
     (is_summary_right, ended(3, b"", NO_MEMORY)),
+    (growths.is_started_right, ended(0, b"scripts with a thread: 3\n")),
+    (growths.is_started_right, ended(0, b"scripts with a thread: 2\n")),
+    (growths.is_started_right, ended(1, b"", b"Error: out of memory\n")),
+    (growths.is_started_right, ended(1, b"")),
 ]
 WRONG_ENDS = [
     (is_case_right, ended(1, CASE.output)),
@@ -487,6 +491,12 @@ WRONG_ENDS = [
     (is_summary_right, ended(3, SUMMARY.output, NO_MEMORY)),
     (is_summary_right, ended(3, b"entries 1\n", NO_MEMORY)),
     (is_summary_right, ended(3, b"", b"ck_run: read fault\n")),
+    (growths.is_started_right, ended(0, b"scripts with a thread: 1\n")),
+    (growths.is_started_right, ended(0, b"")),
+    (growths.is_started_right, ended(0, b"scripts with a thread: 3\n", b"Error: a call\n")),
+    (growths.is_started_right, ended(1, b"scripts with a thread: 2\n")),
+    (growths.is_started_right, ended(1, b"", b"Error: not an entry for each call\n")),
+    (growths.is_started_right, ended(-1, b"")),
 ]
 
 
@@ -520,10 +530,12 @@ esac
 case "$* $REFUSED_GROWTH" in
 "--callers 1 1" | "--callers 2 1" | "--callers 2 2")
     echo "ck_run: thread not started" >&2; exit 3 ;;
+"scripts "[123]) echo "scripts with a thread: 2"; exit ;;
 esac
 case "$script" in BAD_ARGUMENTS | *xx | *Update*) echo "ck_run: bad line" >&2; exit 1 ;; esac
 case "$*" in
 "") echo "0 4 64 0 0" ;;
+scripts) echo "scripts with a thread: 3" ;;
 --callers*) echo "entries 1"; echo "audit ok" ;;
 reserve*) ;;
 --help | --nothing) echo "a text" ;;
@@ -535,7 +547,7 @@ GROWING_CASE = [growths.LARGEST, "1 GetTokenInfo -> 0 4 64 0 0"]
 
 # Of each of these: how many growths are refused, after how many something is made again, and how
 # many faults are found where the program is wrong then.
-GROWING_ENDS = [(9, 9, 9), (9, 0, 9), (9, 0, 9), (9, 9, 9), (0, 0, 1)]
+GROWING_ENDS = [(9, 9, 9), (9, 0, 9), (9, 0, 9), (9, 9, 9), (0, 0, 1), (9, 0, 10)]
 
 # How many growths the program has for each line, what it does where one is refused, and how many
 # faults are found of what it counts. First it is right, and then it forgets what was made again in
@@ -599,6 +611,14 @@ TOLD = [
      [0, 1, 5, 1, 0, 0, 0, 0, 0]),
     ("9", '[ $# != 2 ] || { echo "ck_run: thread not started" >&2; exit 3; }',
      [0, 1, 5, 0, 0, 0, 0, 1, 1]),
+]
+
+# What scripts of three callers say where a growth is refused, and how many faults are found: first
+# it is right, and then two of them have no thread, or only once none.
+THREADS_LACKING = [
+    (":", 0),
+    ('[ "$REFUSED_GROWTH" != 1 ] || { echo "scripts with a thread: 1"; exit; }', 2),
+    ('case "$REFUSED_GROWTH" in [23]) echo "scripts with a thread: 3"; exit ;; esac', 1),
 ]
 
 # What is wrong then.
@@ -930,6 +950,13 @@ def faults_of_scripts(folder, count, refused):
     return [len(check(*arguments)[2]) for check, *arguments in growths.checks_of_scripts("")]
 
 
+def faults_of_threads(folder, refused):
+    """How many faults are found of scripts, one of which has no thread, in a program that does this
+    where a growth is refused."""
+    growths.RACES = write_program(folder, GROWING % ("9", refused), "/bin/true")
+    return len(growths.check_some_threads("")[2])
+
+
 def status_of_short(path, least, least_again):
     """How growths.py ends with the argument `short`, where this many growths must be refused, and
     something made again after this many."""
@@ -955,6 +982,9 @@ def judged_growths(checks):
         for count, refused, faults in TOLD:
             came = faults_of_scripts(folder, count, refused)
             checks.expect(came == faults, f"{count}, {refused}: {came} faults of texts")
+        for refused, faults in THREADS_LACKING:
+            came = faults_of_threads(folder, refused)
+            checks.expect(came == faults, f"{refused}: {came} faults of threads")
         came = growths_of(folder, 9, MADE_AGAIN)
         checks.expect(came == [(*ends, 0) for *ends, _ in GROWING_ENDS], f"made again: {came}")
         path = os.path.join(folder, "a.cases")

@@ -23,6 +23,7 @@ HERE = os.path.dirname(os.path.abspath(__file__))
 PROGRAM = os.path.join(HERE, "..", "crates", "ck_run", "out", "ck_run")
 # The folder of the program that is the example of docs/threads.md.
 SHARING = os.path.join(HERE, "..", "crates", "ck_threads")
+RACES = os.path.join(HERE, "..", "crates", "ck_races", "out", "ck_races")
 
 LONGEST_LINE = 4_194_304
 
@@ -50,6 +51,11 @@ STACK = 8 << 20
 
 # A thread's stack has the size of the limit on stacks. No address space has room for one of these.
 STACK_WITHOUT_ROOM = 1 << 48
+
+# What ck_races writes of three callers that have no threads: by `share` they work one after the
+# other, and by `run_scripts` they don't work. And what it writes where they have threads.
+WITHOUT_THREADS = [("share", b"callers: 1 1 2 2 3 3\n"), ("scripts", b"scripts with a thread: 0\n")]
+WITH_THREADS = b"scripts with a thread: 3\n"
 
 FIRST_CALLS = b"""\
 1 InitToken 31323334
@@ -801,8 +807,8 @@ def threads(tests):
 
 
 def threads_of_share(tests):
-    """Callers of `share` work one after the other where no thread can be made: the example of
-    threads.md, which ck_threads is, writes the same."""
+    """Callers of `share` work one after the other, in their order, where no thread can be made: the
+    example of threads.md, which ck_threads is, writes the same. And no script is run then."""
     refused = without_threads()
     if refused is None:
         print("skipped program: callers that have no threads, since stacks are limited for good",
@@ -812,6 +818,11 @@ def threads_of_share(tests):
         wanted = (file.read(), *PLAYED)
     made = Tests(os.path.join(SHARING, "out", "ck_threads")).run([], b"", **refused)
     tests.expect(made == wanted, f"ck_threads: {made}, and not {wanted}")
+    for word, output in WITHOUT_THREADS:
+        made = Tests(RACES).run([word], b"", **refused)
+        tests.expect(made == (output, *PLAYED), f"ck_races {word}: {made}")
+    made = Tests(RACES).run(["scripts"], b"")
+    tests.expect(made == (WITH_THREADS, *PLAYED), f"ck_races scripts: {made}")
     tests.end("callers that work one after the other")
 
 

@@ -51,15 +51,17 @@ SHAPES = """\
 4, cut, 0, together in any order, 5
 4, cut, 0, together in any order, 6
 4, cut, 0, together in any order, 7
+7, together, 9, afterwards, 1
 """
 
 # The races of the file whose wrong replies are played without the word in-turn too, by their places
 # in it: one with a set order, and two in any order, with two sessions and with a cut.
 NOT_ALONE = [2, 9, 15]
 
-# How many times each race is run in threads: with all calls in a set order by `share` and by
-# `run_scripts`, and with only the first ones.
-RUNS = 300
+# How many times each race is run in threads: by `run_scripts` with all calls in the order of the
+# race, by `run_scripts` and by `share` with all calls in an order that is drawn, and with only the
+# first ones.
+RUNS = 400
 
 # After this many faults a test of wrong replies ends.
 MOST_FAULTS = 9

@@ -323,7 +323,7 @@ NUMBERS_ON_PAGES = [
     ("architecture.md", r"A message of fewer than (\S+) bytes is", "ck_journal/src/calls.rt",
      "LONG_MESSAGE"),
     ("architecture.md", r"looks for the lock (\w+) times", "ck_shared/src/shared.rt", "LOOKS"),
-    ("architecture.md", r"in three ways, a (\w+) times each", "ck_races/src/runs.rt", "RUNS"),
+    ("architecture.md", r"in four ways, a (\w+) times each", "ck_races/src/runs.rt", "RUNS"),
     ("architecture.md", r"has the lock for (\w+) milliseconds", "ck_races/src/gates.rt", "HELD"),
     ("architecture.md", r"takes less than (\w+) milliseconds of processor time",
      "ck_races/src/sleeping.rt", "MOST_TIME"),

@@ -15,7 +15,7 @@ pub struct AttributeQuery {
 
 /// A call of the application with its arguments, named after the standard's function (PKCS #11 Base
 /// 3.0, Functions). Only SetKeyState is no function of the standard. `session`, `object` and `key`
-/// are handles.
+/// are handles. docs/rules.md has when each call is refused, and by which return code.
 #[derive(Drop)]
 pub enum Call {
     InitToken {

@@ -12,7 +12,7 @@ use crate::tokens::{cut_token, initialized_token};
 use anyhow::{Context, bail, ensure};
 use ck_script::reply_line;
 use ck_shared::{Answered, Ask, Caller, News, Runtime, Status, Step, TokenId, run_steps};
-use ck_token::{Call, Limits, NoMemory, Pin, READ_WRITE, Rv, Token, UserType, mechanism_types};
+use ck_token::{Call, Limits, NoMemory, Pin, READ_WRITE, Rv, Token, UserType};
 use std::alloc::Global;
 
 /// How many times a caller asks for the state of the session in its script. The first of two
@@ -31,6 +31,11 @@ const ALL: u64 = 11;
 
 /// How many times all of it is run, with two callers and with three, on each of three tokens.
 const RUNS: u32 = 100;
+
+/// The types of the token's mechanisms.
+const MECHANISMS: [u64; 13] = [
+    0x250, 0x251, 0x252, 0x255, 0x256, 0x257, 0x260, 0x261, 0x262, 0x270, 0x271, 0x272, 0x350,
+];
 
 /// Whether a question is answered by the reply that has this text.
 fn is_status(alloc: Global, status: &Option<Status>, wanted: &str) -> Result<bool, NoMemory> {
@@ -90,6 +95,16 @@ pub(crate) fn await_status<K: TokenId>(
     bail!("a call of another caller isn't seen");
 }
 
+/// Checks that a caller that asks for the mechanisms is given all.
+pub(crate) fn check_mechanisms<K: TokenId>(caller: &mut Caller<K>) -> anyhow::Result<()> {
+    let status = caller.status(Ask::Mechanisms);
+    ensure!(
+        matches!(status, Some(Status::Mechanisms(types)) if types == MECHANISMS),
+        "the mechanisms aren't those of the token",
+    );
+    Ok(())
+}
+
 /// Checks that before the first call the token is in this state, has no sessions, and has all
 /// mechanisms.
 fn check_before<K: TokenId>(
@@ -99,12 +114,7 @@ fn check_before<K: TokenId>(
 ) -> anyhow::Result<()> {
     check_ask(alloc, caller, Ask::Token, state)?;
     check_ask(alloc, caller, Ask::Session(1), "b3")?;
-    let status = caller.status(Ask::Mechanisms);
-    ensure!(
-        matches!(status, Some(Status::Mechanisms(types)) if types == mechanism_types()),
-        "the mechanisms aren't those of the token",
-    );
-    Ok(())
+    check_mechanisms(caller)
 }
 
 /// The login of the user.

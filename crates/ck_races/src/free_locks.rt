@@ -1,6 +1,6 @@
 //! While one caller adds long messages to a digest, the lock is free: another takes it again and
-//! again.
-use crate::gates::LockingGate;
+//! again. And a message is also taken in where the other has the lock at the moment.
+use crate::gates::{LockingGate, LongCall};
 use crate::shared_work::Shared;
 use anyhow::ensure;
 use ck_shared::{Caller, Runtime, TokenId};
@@ -36,11 +36,23 @@ impl<'a, K: TokenId + Send + Sync, R: Runtime> Shared<'a, K, R> {
     /// meanwhile.
     pub(crate) fn add_messages(&self, callers: &mut Vec<Caller<K>>) -> anyhow::Result<()> {
         let alloc = self.rt.alloc();
-        let gate = LockingGate::new(self.token, MESSAGES);
+        let gate = LockingGate::new(self.token, LongCall::Called, MESSAGES);
         self.run_at(&gate, callers, |caller| calls_of(alloc, caller))?;
         ensure!(
             gate.locks() >= LEAST_LOCKS,
             "the lock is seldom free while messages are added",
+        );
+        Ok(())
+    }
+
+    /// The same, where `take_in` is tried before each call.
+    pub(crate) fn add_taken_messages(&self, callers: &mut Vec<Caller<K>>) -> anyhow::Result<()> {
+        let alloc = self.rt.alloc();
+        let gate = LockingGate::new(self.token, LongCall::TriedBefore, MESSAGES);
+        self.run_at(&gate, callers, |caller| calls_of(alloc, caller))?;
+        ensure!(
+            gate.taken() == MESSAGES,
+            "a message isn't taken in while another has the lock",
         );
         Ok(())
     }

@@ -105,29 +105,61 @@ impl<'a, K: TokenId, T: JournaledToken, R: Wait + Drop> Gate<K> for TakingGate<'
     }
 }
 
+/// How a `LockingGate` makes a call with a long message.
+#[derive(Clone, Copy, PartialEq)]
+pub(crate) enum LongCall {
+    /// By `call` alone.
+    Called,
+    /// By `call`, when `take_in` was tried before.
+    TriedBefore,
+}
+
 /// A gate before a shared token. The calls with long messages begin when another caller has taken
 /// the lock. Any other call comes after them: until then its caller takes the lock again and again.
 #[derive(Drop)]
 pub(crate) struct LockingGate<'a, K: TokenId, T: JournaledToken, R: Wait + Drop> {
     token: &'a SharedToken<K, T, R>,
+    long_call: LongCall,
     locks: AtomicU64,
     /// How many calls with long messages are still to come.
     messages: AtomicU64,
+    /// How many messages `take_in` has given.
+    taken: AtomicU64,
 }
 
 impl<'a, K: TokenId, T: JournaledToken, R: Wait + Drop> LockingGate<'a, K, T, R> {
-    /// A gate before a token, which answers the calls. This many of them have long messages.
-    pub(crate) fn new(token: &'a SharedToken<K, T, R>, messages: u64) -> LockingGate<'a, K, T, R> {
+    /// A gate before a token, which answers the calls. This many of them have long messages, and
+    /// are made in this way.
+    pub(crate) fn new(
+        token: &'a SharedToken<K, T, R>,
+        long_call: LongCall,
+        messages: u64,
+    ) -> LockingGate<'a, K, T, R> {
         LockingGate {
             token,
+            long_call,
             locks: AtomicU64::new(0),
             messages: AtomicU64::new(messages),
+            taken: AtomicU64::new(0),
         }
     }
 
     /// How many times the lock was taken.
     pub(crate) fn locks(&self) -> u64 {
         self.locks.load(Ordering::SeqCst)
+    }
+
+    /// How many messages `take_in` has given.
+    pub(crate) fn taken(&self) -> u64 {
+        self.taken.load(Ordering::SeqCst)
+    }
+
+    /// Takes in a message, where that is tried before calls, and counts it. It isn't kept.
+    fn try_to_take_in<W: Wait>(&self, rt: &W, call: &Call) {
+        let is_tried = self.long_call == LongCall::TriedBefore;
+        if is_tried && self.token.take_in(rt, call).is_some() {
+            self.taken.fetch_add(1, Ordering::SeqCst);
+        }
     }
 
     /// Takes the lock again and again, until all calls with long messages are made.
@@ -155,6 +187,7 @@ impl<'a, K: TokenId, T: JournaledToken, R: Wait + Drop> Gate<K> for LockingGate<
             return self.token.call(rt, alloc, caller, call);
         }
         await_lock(rt, &self.locks);
+        self.try_to_take_in(rt, &call);
         let reply = self.token.call(rt, alloc, caller, call);
         self.messages.fetch_sub(1, Ordering::SeqCst);
         reply

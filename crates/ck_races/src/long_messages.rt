@@ -48,7 +48,8 @@ impl<'a, K: TokenId, R: Runtime> Shared<'a, K, R> {
     {
         self.make_short_calls(callers)?;
         self.take_in_messages(callers)?;
-        self.add_messages(callers)
+        self.add_messages(callers)?;
+        self.add_taken_messages(callers)
     }
 }
 

@@ -16,7 +16,8 @@
 //! With the word `in-turn` before the files only the calls of each race are made, one after the
 //! other: on a shared token, by `run` and by `run_scripts`. Where there was no memory they are made
 //! again, and the line of a file says how many times that was. The word `reserved` only makes calls
-//! for which room in the journal is reserved, and `reserve` only reserves it.
+//! for which room in the journal is reserved, and `reserve` only reserves it. With `scripts` and
+//! `share` three callers make calls, by `run_scripts` and by `share`, where threads may be refused.
 #![tactic(auto)]
 
 mod asks;
@@ -24,6 +25,7 @@ mod behind_calls;
 mod drawing_callers;
 mod drawn_calls;
 mod eight_scripts;
+mod few_threads;
 mod files;
 mod free_locks;
 mod gates;
@@ -53,6 +55,7 @@ use behind_calls::run_behind_calls;
 use ck_shared::Runtime;
 use drawn_calls::make_drawn_calls;
 use eight_scripts::run_eight_scripts;
+use few_threads::{write_callers, write_started};
 use files::{Mode, run_file};
 use held_steps::run_held_steps;
 use judges::check_judges;
@@ -107,6 +110,8 @@ fn run_all<R: CpuClock + Env + Files + Runtime>(rt: R, text: &mut String) -> any
                 return Ok(());
             }
             "reserved" => return make_reserved_calls(rt.alloc(), reserve(rt.alloc())?),
+            "scripts" => return write_started(rt, text),
+            "share" => return write_callers(rt, text),
             name => run_file(rt, text, name, mode)?,
         }
     }

@@ -1,5 +1,6 @@
 //! The calls of a race, one after the other on a shared token, by two callers in turn. What finds
 //! no memory, which `bench/growths.py` refuses, is made again by the other one.
+use crate::asks::check_mechanisms;
 use crate::journals::check_retried;
 use crate::races::{Race, RaceLine, check_reply};
 use crate::retried_runs::retry_run;
@@ -52,7 +53,7 @@ fn check_unchanged<K: TokenId>(caller: &mut Caller<K>, before: &Knowledge) -> an
             && are_same_replies(&after.session, &before.session),
         "changed by a call without memory"
     );
-    Ok(())
+    check_mechanisms(caller)
 }
 
 impl<'a, K: TokenId, R: Runtime> Shared<'a, K, R> {

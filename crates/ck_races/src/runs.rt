@@ -17,7 +17,7 @@ use rand_core::SeedableRng;
 use rand_xoshiro::Xoshiro256PlusPlus;
 use std::alloc::Global;
 
-/// How many times a race is run with all its calls in order, and as many with only the first ones.
+/// How many times a race is run in each of four ways.
 const RUNS: u64 = 100;
 
 /// Checks what came of a race, and what is made afterwards: no call was made too early, each caller
@@ -86,17 +86,24 @@ fn make_race(alloc: Global, token: &mut Token, race: &Race) -> anyhow::Result<()
     make_calls(alloc, token, &race.afterwards)
 }
 
-/// Runs a race again and again: with all calls in an order of their callers, first this one and
-/// then drawn, and with only the first calls in order. Says how many calls were made in threads.
-fn run_in_orders<R: Runtime>(rt: R, race: &Race, callers: &mut [u32]) -> anyhow::Result<u64> {
+/// Runs a race again and again: by scripts with all calls in this order of their callers; by
+/// scripts and by `share` in another order, which is drawn anew each time; and with only the first
+/// calls in that order. Says how many calls were made in threads.
+fn run_in_orders<R: Runtime>(
+    rt: R,
+    race: &Race,
+    callers: &[u32],
+    drawn: &mut [u32],
+) -> anyhow::Result<u64> {
     let mut draws = Xoshiro256PlusPlus::seed_from_u64(race.number);
     let mut calls = 0u64;
     for _ in 0..RUNS {
-        calls = calls.saturating_add(run_shared(rt, race, callers)?);
         calls = calls.saturating_add(run_scripted(rt, race, callers)?);
-        let first = callers.get(..race.first).unwrap_or(&[]);
+        calls = calls.saturating_add(run_scripted(rt, race, drawn)?);
+        calls = calls.saturating_add(run_shared(rt, race, drawn)?);
+        let first = drawn.get(..race.first).unwrap_or(&[]);
         calls = calls.saturating_add(run_shared(rt, race, first)?);
-        if let Some(together) = callers.get_mut(race.first..) {
+        if let Some(together) = drawn.get_mut(race.first..) {
             reorder(&mut draws, together);
         }
     }
@@ -109,6 +116,7 @@ pub(crate) fn run_race<R: Runtime>(rt: R, race: &Race) -> anyhow::Result<u64> {
     let alloc = rt.alloc();
     make_race(alloc, &mut prepared_token(alloc, race)?, race)?;
     let callers = race.lines.iter().map(|line| line.caller);
-    let mut callers: Vec<u32> = callers.collect(alloc)?;
-    run_in_orders(rt, race, &mut callers)
+    let callers: Vec<u32> = callers.collect(alloc)?;
+    let mut drawn: Vec<u32> = callers.iter().copied().collect(alloc)?;
+    run_in_orders(rt, race, &callers, &mut drawn)
 }

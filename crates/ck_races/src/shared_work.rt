@@ -37,6 +37,8 @@ pub(crate) enum SharedWork<'a> {
     },
     /// Eight callers make the calls of their scripts.
     EightScripts,
+    /// Callers of which some may have no thread make the calls of their scripts.
+    FewThreads,
     /// One caller makes calls under one lock. Then both callers are lost.
     CallsUnderLock,
     /// Two callers make a call each, one of them under a lock that it holds for long.
@@ -159,6 +161,7 @@ impl<'a, K: TokenId, R: Runtime> Shared<'a, K, R> {
                 outcome.replies = self.run_held(callers, race, order)?;
             }
             SharedWork::EightScripts => outcome.replies = self.run_eight(callers)?,
+            SharedWork::FewThreads => outcome.answered = self.run_few(callers)?,
             SharedWork::CallsUnderLock => self.call_under_lock(callers)?,
             SharedWork::CallBesideLock => outcome.replies = self.call_beside_lock(callers)?,
             SharedWork::LongMessages => self.add_long_messages(callers)?,

@@ -225,7 +225,7 @@ impl Token {
     /// Where the journal has room, a call that fails one of its checks is never out of memory. One
     /// that passes them may be out of memory only where it opens a session; creates, generates or
     /// copies an object; sets or reads attributes; finds or returns objects; reads the list of
-    /// mechanisms; starts an operation; or gives a digest or a signature.
+    /// mechanisms; starts an operation; or asks for the bytes of a digest or a signature.
     // Inlined, since a function that only hands a call on would copy it.
     #[inline(always)]
     pub fn call(&mut self, alloc: Global, caller: u32, call: Call) -> Result<Reply, NoMemory>
