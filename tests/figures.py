@@ -35,7 +35,7 @@ SIZE = 30
 make_script.LABEL_ROUNDS = 1_000
 
 # How many calls are few and many, how many times as long the many must take, and how many times as
-# long as these an audit of as many entries may take.
+# long as these an audit of as many entries may take, or they as long as it.
 FEW, MANY = 1_000, 100_000
 LEAST_GROWTH = 20
 MOST_OF_AUDIT = 8
@@ -235,9 +235,10 @@ def times_of_sections(text, *way):
 
 def are_times_of_calls(times, has_audit):
     """Whether the least time of many calls is far longer than that of few, and an audit, where
-    there is one, takes in each try a few times as long as the calls."""
+    there is one, makes each call again: in each try it takes about as long as they."""
     few, many, audits = (times.get(name, [0]) for name in ("few", "many", "audit"))
-    is_audit_right = min(audits) > 0 and MANY * max(audits) < MOST_OF_AUDIT * min(many)
+    is_audit_right = (MANY * max(audits) < MOST_OF_AUDIT * min(many)
+                      and min(many) < MOST_OF_AUDIT * MANY * min(audits))
     return 0 < LEAST_GROWTH * min(few) < min(many) and (is_audit_right or not has_audit)
 
 

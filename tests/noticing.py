@@ -64,6 +64,11 @@ WRONG_FOR_ONE = [
      '"$right" "$@" 2> "$told"; status=$?; dd bs=16 status=none < "$told" >&2; exit $status'),
     (program.sessions_with_objects, WITH_INPUT % '! grep -q "^1 CreateObject 64 " "$input"'),
     (program.memory, f'ulimit -v {program.ROOM_OF_CREATED // 1_536}; {RIGHT}'),
+    (program.memory, WITH_INPUT % '! grep -q "^1 FindObjectsInit 64 " "$input"'),
+    (program.memory_of_callers, f'ulimit -v {program.ROOM_OF_EIGHT // 2_048}; {RIGHT}'),
+    (program.audits, WITH_INPUT % (
+        '[ "$(wc -l < "$input")" -lt 10000 ] || '
+        '{ printf "entries %s\\naudit ok\\n" "$(wc -l < "$input")"; exit; }')),
     *((program.ended, WITH_INPUT % f'! grep -q "^{call}" "$input"')
       for call in ("1 DestroyObject 1 201", "1 FindObjectsFinal 1")),
 ]
@@ -102,11 +107,11 @@ SILENT = {
     "nothing on standard error": [program.dialogue, program.long_lists, program.long_replies,
                                   program.long_history, program.packets, program.side_by_side,
                                   program.many_changes, program.memory, program.ended,
-                                  program.single_writes,
+                                  program.single_writes, program.memory_of_callers,
                                   program.sessions_with_objects, program.seldom_asleep,
                                   recorded_runs.reports,
                                   recorded_runs.limits_of_first_case, recorded_runs.long_texts,
-                                  recorded_runs.cuts,
+                                  recorded_runs.long_replies, recorded_runs.cuts,
                                   races.whole_file, races.set_orders, rules.attributes,
                                   rules.unknown_attributes, rules.values, rules.key_states,
                                   rules.mechanisms, rules.session_states, rules.pieces,
@@ -123,6 +128,7 @@ OTHERS = (races.shapes, rules.limits, rules.checks_of_calls, rules.codes, rules.
           rules.races_of_threads, rules.sketch_of_call, rules.numbers_of_pages,
           rules.functions_of_module, rules.clients_of_module,
           rules.lines_of_answers, rules.links, rules.toolchain, program.threads_of_share,
+          program.threads_of_bench,
           figures.readings, figures.counts_of_callers, figures.readings_of_module,
           figures.times_of_calls, figures.times_of_messages, figures.asks_behind_many_calls,
           figures.bounds, figures.bounds_of_module, figures.sections)
@@ -132,13 +138,15 @@ OTHERS = (races.shapes, rules.limits, rules.checks_of_calls, rules.codes, rules.
 AUDIT = "audit of 100000 entries: true\naudit: "
 BENCH_TIMES = [
     (f"few: 1 ns\nmany: 21 ns\n{AUDIT}167 ns\n", True),
-    (f"few: 1 ns\nmany: 22 ns\n{AUDIT}167 ns\nfew: 2 ns\nmany: 21 ns\n{AUDIT}1 ns\n", True),
+    (f"few: 1 ns\nmany: 22 ns\n{AUDIT}167 ns\nfew: 2 ns\nmany: 21 ns\n{AUDIT}3 ns\n", True),
     (f"few: 1 ns\nmany: 20 ns\n{AUDIT}21 ns\n", False),
     (f"few: 1 ns\nmany: 21 ns\n{AUDIT}21 ns\nfew: 2 ns\nmany: 20 ns\n{AUDIT}21 ns\n", False),
     (f"few: 1 ns\nmany: 21 ns\n{AUDIT}169 ns\n", False),
     (f"few: 1 ns\nmany: 21 ns\n{AUDIT}21 ns\nfew: 1 ns\nmany: 21 ns\n{AUDIT}169 ns\n", False),
     (f"few: 0 ns\nmany: 21 ns\n{AUDIT}21 ns\n", False),
     (f"few: 1 ns\nmany: 21 ns\n{AUDIT}0 ns\n", False),
+    (f"few: 1 ns\nmany: 21 ns\n{AUDIT}2 ns\n", False),
+    (f"few: 1 ns\nmany: 21 ns\n{AUDIT}21 ns\nfew: 1 ns\nmany: 21 ns\n{AUDIT}2 ns\n", False),
     (f"few: 1000 calls, 1 refused\nfew: 1 ns\nmany: 21 ns\n{AUDIT}21 ns\n", False),
     (f"few: 1 ns\n{AUDIT}21 ns\n", False),
     ("few: 1 ns\nmany: 21 ns\n", False),

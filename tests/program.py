@@ -24,6 +24,7 @@ PROGRAM = os.path.join(HERE, "..", "crates", "ck_run", "out", "ck_run")
 # The folder of the program that is the example of docs/threads.md.
 SHARING = os.path.join(HERE, "..", "crates", "ck_threads")
 RACES = os.path.join(HERE, "..", "crates", "ck_races", "out", "ck_races")
+BENCH = os.path.join(HERE, "..", "crates", "ck_bench", "out", "ck_bench")
 
 LONGEST_LINE = 4_194_304
 
@@ -38,6 +39,15 @@ LARGE_OBJECTS = b"".join([
     b"1 CreateObject 1 0=0000000000000000,11=", b"61" * 1_000_000, b"\n",
     b"1 CopyObject 1 1 -\n" * 63])
 ROOM = 110_000_000
+
+# How many calls make their journal long, and a room for these, too.
+LONG_JOURNAL = 200_000
+ROOM_OF_LONG = 190_000_000
+
+# How many calls each of eight callers makes in such a room, for their stacks as well. It has none
+# for eight lists of all calls.
+CALLS_OF_EACH = 50_000
+ROOM_OF_EIGHT = 350_000_000
 
 # How many copies of one large object are made in that room, each destroyed before the next, and how
 # many searches, each of which finds this many objects and is ended. If they kept their memory, the
@@ -75,6 +85,9 @@ REPLY_TO_EACH = b"0 404 64 1 1\n"
 
 # Such a call of each of eight callers.
 ONE_OF_EIGHT = b"".join(b"%d GetTokenInfo\n" % number for number in range(1, 9))
+
+# How many queries fill a reply of 90,003 bytes, which is more than one packet of those below.
+QUERIES = 30_000
 
 # How many items or queries of four bytes, and how many labels of five bytes, fill most of the
 # longest line.
@@ -162,11 +175,11 @@ BYTES_OF_OBJECT = 220
 BYTES_OF_CREATION = 320
 ROOM_OF_CREATED = MANY_CREATED * (BYTES_OF_OBJECT + BYTES_OF_CREATION) * 6 // 5
 
-# How many sessions have one object each, and the room for all of it.
-SESSIONS_WITH_OBJECTS = 64
+# How many sessions have a search each in this room, or an object each, and the room for the latter.
+SESSIONS = 64
 ROOM_OF_SESSIONS = 30_000_000
 
-# The bytes of a packet that one read takes whole.
+# The bytes of a packet that one read of the program takes whole. Tests read packets twice as long.
 PACKET = 65_536
 
 # Short calls of callers in threads, and how many times they may sleep together.
@@ -178,6 +191,10 @@ MOST_SLEEPS = 20_000
 # sleeps above are tried at most, since other work of the machine can hold up some of the threads.
 THREADS_OF_EIGHT = 9
 TRIES = 3
+
+# How many there are of ck_bench, which has up to four callers, where each asks this often.
+THREADS_OF_FOUR = 5
+ASKS = 1_700_000
 
 # Two callers: the first makes six calls, the second two.
 TWO_CALLERS = FIRST_CALLS + b"2 CloseSession 1\n2 CloseSession 1\n"
@@ -315,10 +332,11 @@ LINES_WITH_FAULTS = [
     (b"1 CreateObject 1 3,0x3=00", NO_TEMPLATE),
 ]
 
-# A name with two letters too many, or three, after the longest name and the front of the standard;
-# one that is too long; and one in which letters that stand side by side are exchanged twice, which
-# are three changes.
+# A name that is as near to two calls, of which the first is named; one with two letters too many,
+# or three, after the longest name and the front of the standard; one that is too long; and one in
+# which letters that stand side by side are exchanged twice, which are three changes.
 NAMES = [
+    (b"etAttributeValue", NO_CALL + b", the nearest is GetAttributeValue"),
     (b"C_GetAttributeValues", NO_CALL + b", the nearest is GetAttributeValue"),
     (b"c_getattributevaluexx", NO_CALL + b", the nearest is GetAttributeValue"),
     (b"C_GetAttributeValuexxx", NO_CALL),
@@ -538,6 +556,8 @@ def long_lists(tests):
     tests.check([], start + calls, b"0\n0 1\n0 1\n0 :%d,=%b\n" % (len(value) // 2, value), *PLAYED)
     parameter = b"1 DigestInit 1 250:" + b"00" * LONG_PARAMETER + b"\n"
     tests.check([], start + parameter, b"0\n0 1\n71\n", *PLAYED)
+    # callers make copies of their calls, and so does an audit
+    tests.check(["--callers", "1"], start + calls + parameter, b"entries 5\naudit ok\n", *PLAYED)
     tests.end("lists, values and a parameter that fill the longest line")
 
 
@@ -594,17 +614,17 @@ def packets(tests):
 
 def read_packets(end, packets):
     """Adds the packets that come at this end until the other one is closed."""
-    packets.extend(iter(lambda: end.recv(PACKET), b""))
+    packets.extend(iter(lambda: end.recv(2 * PACKET), b""))
 
 
 def single_writes(tests):
     """A reply is one write, and so are the two lines of callers: who reads packets gets them
     whole."""
     mechanisms = b"0 250,251,252,255,256,257,260,261,262,270,271,272,350\n"
-    lengths = b"0 " + b",".join([b":0"] * 15_000) + b"\n"
+    lengths = b"0 " + b",".join([b":0"] * QUERIES) + b"\n"
     script = (b"1 InitToken 31323334\n1 GetMechanismList\n1 GetTokenInfo\n1 OpenSession 6\n"
               b"1 CreateObject 1 0=0000000000000000\n"
-              b"1 GetAttributeValue 1 1 " + b",".join([b"3:?"] * 15_000) + b"\n")
+              b"1 GetAttributeValue 1 1 " + b",".join([b"3:?"] * QUERIES) + b"\n")
     replies = [b"0\n", mechanisms, b"0 404 64 0 0\n", b"0 1\n", b"0 1\n", lengths]
     for words, wanted in (([], replies), (["--callers", "1"], [b"entries 6\naudit ok\n"])):
         ours, theirs = socket.socketpair(socket.AF_UNIX, socket.SOCK_SEQPACKET)
@@ -638,7 +658,11 @@ def callers(tests):
     for words in (["--callers", "2"], ["--callers=2"], ["--callers", "8"]):
         tests.check(words, TWO_CALLERS, b"entries 8\naudit ok\n", *PLAYED)
     tests.check(["--callers", "1"], FIRST_CALLS, b"entries 6\naudit ok\n", *PLAYED)
-    tests.check(["--callers", "1"], ONE_OF_MANY * MANY, b"entries %d\naudit ok\n" % MANY, *PLAYED)
+    # also where the last calls change sessions and objects
+    tests.check(["--callers", "1"],
+                b"1 InitToken 31323334\n" + ONE_OF_MANY * MANY
+                + b"1 OpenSession 6\n1 CreateObject 1 0=0000000000000000\n",
+                b"entries %d\naudit ok\n" % (MANY + 3), *PLAYED)
     # with these comments the script has 83 million bytes
     comments = (b"#" * LONGEST_LINE + b"\n") * 12
     tests.check(["--callers", "8"], comments + ONE_OF_EIGHT * (MANY // 8),
@@ -657,32 +681,33 @@ def callers(tests):
     tests.end("callers in threads")
 
 
-def leave_little_room():
-    most = resource.getrlimit(resource.RLIMIT_STACK)[1]
-    stack = STACK if most == resource.RLIM_INFINITY else min(STACK, most)
-    resource.setrlimit(resource.RLIMIT_STACK, (stack, most))
-    resource.setrlimit(resource.RLIMIT_AS, (ROOM, ROOM))
+def in_room(room):
+    """How a program is started in an address space of so many bytes."""
+    def leave_room():
+        most = resource.getrlimit(resource.RLIMIT_STACK)[1]
+        stack = STACK if most == resource.RLIM_INFINITY else min(STACK, most)
+        resource.setrlimit(resource.RLIMIT_STACK, (stack, most))
+        resource.setrlimit(resource.RLIMIT_AS, (room, room))
+
+    return {"preexec_fn": leave_room}
 
 
 def audits(tests):
-    short = {"preexec_fn": leave_little_room}
     words = ["--callers", "1"]
-    tests.check(words, LARGE_OBJECTS + b"1 CloseAllSessions\n", b"entries 67\naudit ok\n", *PLAYED,
-                **short)
-    tests.check(words, LARGE_OBJECTS, b"", *NO_MEMORY, **short)
-    # a longer journal is audited, too
-    more = ONE_OF_MANY * 2_000
-    tests.check(words, LARGE_OBJECTS + b"1 CloseAllSessions\n" + more, b"entries 2067\naudit ok\n",
-                *PLAYED, **short)
-    tests.check(words, LARGE_OBJECTS + more, b"", *NO_MEMORY, **short)
-    tests.check(words, LARGE_OBJECTS + b"1 CopyObject 1 1 -\n" * 100, b"", *NO_MEMORY, **short)
+    for more, room in ((0, ROOM), (2_000, ROOM), (LONG_JOURNAL, ROOM_OF_LONG)):
+        calls = ONE_OF_MANY * more
+        tests.check(words, LARGE_OBJECTS + b"1 CloseAllSessions\n" + calls,
+                    b"entries %d\naudit ok\n" % (67 + more), *PLAYED, **in_room(room))
+        tests.check(words, LARGE_OBJECTS + calls, b"", *NO_MEMORY, **in_room(room))
+    tests.check(words, LARGE_OBJECTS + b"1 CopyObject 1 1 -\n" * 100, b"", *NO_MEMORY,
+                **in_room(ROOM))
     tests.end("the journal of callers is audited, and an audit or a call finds no memory for many "
               "objects")
 
 
 def ended(tests):
     """Copies that are destroyed and searches that are ended give their memory back."""
-    short = {"preexec_fn": leave_little_room}
+    short = in_room(ROOM)
     start, replies = b"1 InitToken 31323334\n1 OpenSession 6\n", b"0\n0 1\n"
     value = b"1 CreateObject 1 0=0000000000000000,11=" + b"61" * 1_000_000 + b"\n"
     numbers = range(2, MANY_COPIES + 2)
@@ -700,29 +725,28 @@ def ended(tests):
 
 def memory(tests):
     """Objects and entries take no more memory than the page says. A token of which the journal
-    takes twice as much has too little room here."""
-    def leave_room():
-        resource.setrlimit(resource.RLIMIT_AS, (ROOM_OF_CREATED, ROOM_OF_CREATED))
-
+    takes twice as much has too little room here; and so has one in which searches that find one
+    object have room for all."""
     numbers = range(1, MANY_CREATED + 1)
     calls = [f"1 CreateObject 1 0=0000000000000000,3={number:016x}" for number in numbers]
+    replies = ["0", "0 1", *(f"0 {number}" for number in numbers)]
+    for session in range(2, SESSIONS + 1):
+        calls += ["1 OpenSession 6", f"1 FindObjectsInit {session} 3={session:016x}"]
+        replies += [f"0 {session}", "0"]
     script = "\n".join(["1 InitToken 31323334", "1 OpenSession 6", *calls]).encode()
-    replies = "".join(["0\n", "0 1\n", *(f"0 {number}\n" for number in numbers)]).encode()
-    tests.check([], script, replies, *PLAYED, preexec_fn=leave_room)
-    tests.end("the memory of objects and of entries")
+    tests.check([], script, "".join(reply + "\n" for reply in replies).encode(), *PLAYED,
+                **in_room(ROOM_OF_CREATED))
+    tests.end("the memory of objects, of entries and of searches")
 
 
 def sessions_with_objects(tests):
     """The list of a session's objects takes no more memory than a few objects need."""
-    def leave_room():
-        resource.setrlimit(resource.RLIMIT_AS, (ROOM_OF_SESSIONS, ROOM_OF_SESSIONS))
-
-    numbers = range(1, SESSIONS_WITH_OBJECTS + 1)
-    calls = [*["1 OpenSession 6"] * SESSIONS_WITH_OBJECTS,
+    numbers = range(1, SESSIONS + 1)
+    calls = [*["1 OpenSession 6"] * SESSIONS,
              *(f"1 CreateObject {number} 0=0000000000000000" for number in numbers)]
     script = "".join(line + "\n" for line in ["1 InitToken 31323334", *calls]).encode()
     replies = "0\n" + "".join(f"0 {number}\n" for number in [*numbers, *numbers])
-    tests.check([], script, replies.encode(), *PLAYED, preexec_fn=leave_room)
+    tests.check([], script, replies.encode(), *PLAYED, **in_room(ROOM_OF_SESSIONS))
     tests.end("the memory of sessions with objects")
 
 
@@ -732,8 +756,18 @@ def many_changes(tests):
     script = b"1 InitToken 31323334\n" + b"".join(
         b"1 OpenSession 6\n1 CloseSession %d\n" % (number + 1) for number in range(count))
     tests.check(["--callers", "1"], script, b"entries %d\naudit ok\n" % (2 * count + 1), *PLAYED,
-                preexec_fn=leave_little_room)
+                **in_room(ROOM))
     tests.end("calls that open and close sessions leave no memory behind")
+
+
+def memory_of_callers(tests):
+    """Each caller has room for the calls that it makes, and not for those of the others."""
+    # one heap for all threads: else the system sets room aside for more
+    environment = {**os.environ, "MALLOC_ARENA_MAX": "1"}
+    tests.check(["--callers", "8"], ONE_OF_EIGHT * CALLS_OF_EACH,
+                b"entries %d\naudit ok\n" % (8 * CALLS_OF_EACH), *PLAYED, env=environment,
+                **in_room(ROOM_OF_EIGHT))
+    tests.end("the memory of callers")
 
 
 def count_threads(tests, words, script):
@@ -761,6 +795,17 @@ def side_by_side(tests):
             break
     tests.expect(most == THREADS_OF_EIGHT, f"with eight callers there are {most} threads at once")
     tests.end("callers have their threads at the same time")
+
+
+def threads_of_bench(tests):
+    """Each caller of `share` has a thread of its own, besides the one that shares the token."""
+    for _ in range(TRIES):
+        most, (_, errors, status) = count_threads(Tests(BENCH), ["threads", str(ASKS)], b"")
+        tests.expect((errors, status) == PLAYED, f"ck_bench: {errors}, status {status}")
+        if most == THREADS_OF_FOUR:
+            break
+    tests.expect(most == THREADS_OF_FOUR, f"with four callers there are {most} threads at once")
+    tests.end("each caller of ck_bench has a thread")
 
 
 def count_sleeps(tests, script):
@@ -879,7 +924,9 @@ def main(program):
     memory(tests)
     sessions_with_objects(tests)
     many_changes(tests)
+    memory_of_callers(tests)
     side_by_side(tests)
+    threads_of_bench(tests)
     seldom_asleep(tests)
     threads(tests)
     threads_of_share(tests)

@@ -301,6 +301,10 @@ LARGE_CASE_LINES = 66
 # The bytes of an address space that has room for these objects once. An audit makes them again.
 ROOM = 100_000_000
 
+# Calls that make such a case long.
+MORE_CALLS = 20_000
+MORE = b"1 GetTokenInfo -> 0 404 64 1 1\n" * MORE_CALLS
+
 # A call whose reply finds no room there, at both times that it is made: 200 million bytes.
 LARGE_REPLY = b"".join([
     b"1 InitToken 31323334\n1 OpenSession 6\n",
@@ -314,8 +318,14 @@ FEW_KEPT, MANY_KEPT = 20_000, 80_000
 MOST_GROWTH = 8
 MOST_TRIES = 6
 
+# A run with a value that fills a long reply, as recorded.
+LONG_VALUE = b"61" * 1_000_000
+LONG_REPLY = (b"1 InitToken 31323334 -> 0\n1 OpenSession 6 -> 0 1\n"
+              b"1 CreateObject 1 0=0000000000000000,11=%b -> 0 1\n"
+              b"1 GetAttributeValue 1 1 11:1000000 -> 0 =%b\n" % (LONG_VALUE, LONG_VALUE))
+
 USAGE = b"\n\nUsage: ck_cases [OPTIONS] <FILE>..."
-MORE = b"\n\nFor more information, try '--help'.\n"
+HINT = b"\n\nFor more information, try '--help'.\n"
 
 BAD_OPTION = (b"error: invalid value for '--limits': " + BAD_LIMITS
               + b", with commas between the numbers\n")
@@ -323,15 +333,15 @@ BAD_OPTION = (b"error: invalid value for '--limits': " + BAD_LIMITS
 # Bad arguments, and what is written of them.
 BAD_ARGUMENTS = [
     ([], b"error: the following required arguments were not provided:\n  <FILE>..."
-     b"\n\nUsage: ck_cases <FILE>..." + MORE),
+     b"\n\nUsage: ck_cases <FILE>..." + HINT),
     (["--most", "x", "t"],
-     b"error: invalid value 'x' for '--most <N>': invalid digit found in string" + MORE),
+     b"error: invalid value 'x' for '--most <N>': invalid digit found in string" + HINT),
     (["--nothing", "t"], b"error: unexpected argument '--nothing' found"
-     b"\n\n  tip: to pass '--nothing' as a value, use '-- --nothing'" + USAGE + MORE),
+     b"\n\n  tip: to pass '--nothing' as a value, use '-- --nothing'" + USAGE + HINT),
     (["--most", "1", "--most", "2", "t"],
-     b"error: the argument '--most <N>' cannot be used multiple times" + USAGE + MORE),
+     b"error: the argument '--most <N>' cannot be used multiple times" + USAGE + HINT),
     (["--limits", "largest", "--limits", "2,9,9,9", "t"],
-     b"error: the argument '--limits <LIMITS>' cannot be used multiple times" + USAGE + MORE),
+     b"error: the argument '--limits <LIMITS>' cannot be used multiple times" + USAGE + HINT),
     (["--limits", "65,1,1,1", "t"], BAD_OPTION),
     (["--limits", "2 3 4 5", "t"], BAD_OPTION),
     (["--limits", "1,2,3", "t"], BAD_OPTION),
@@ -500,13 +510,21 @@ def long_texts(tests):
     tests.end("texts of 80 characters and of more are shortened")
 
 
+def long_replies(tests):
+    tests.check_file(LONG_REPLY, ["t"], b"t: 4 passed\n", b"", 0)
+    tests.check_file(LONG_REPLY, ["--replies", "t"], LONG_REPLY, b"", 0)
+    tests.end("a reply of a million bytes")
+
+
 def audits(tests):
     short = {"preexec_fn": lambda: resource.setrlimit(resource.RLIMIT_AS, (ROOM, ROOM))}
-    ended = LARGE_CASE + b"1 CloseAllSessions -> 0\n"
-    report = b"t: %d passed\n" % (LARGE_CASE_LINES + 1)
-    for next_case in (b"", b"limits largest\n"):
-        tests.check_file(ended + next_case, ["t"], report, b"", 0, **short)
-        tests.check_file(LARGE_CASE + next_case, ["t"], b"t: out of memory\n", b"", 1, **short)
+    end = b"1 CloseAllSessions -> 0\n"
+    for more, count, next_case in ((b"", 0, b""), (b"", 0, b"limits largest\n"),
+                                   (MORE, MORE_CALLS, b"")):
+        report = b"t: %d passed\n" % (LARGE_CASE_LINES + count + 1)
+        tests.check_file(LARGE_CASE + more + end + next_case, ["t"], report, b"", 0, **short)
+        tests.check_file(LARGE_CASE + more + next_case, ["t"], b"t: out of memory\n", b"", 1,
+                         **short)
     tests.check_file(LARGE_CASE, ["--replies", "t"], b"", b"t: out of memory\n", 1, **short)
     cut = LARGE_CASE + b"cut -> a session is open\n1 CloseAllSessions -> 0\n"
     tests.check_file(cut, ["t"], b"t: out of memory\n", b"", 1, **short)
@@ -586,6 +604,7 @@ def main(program):
     rewritten(tests)
     many_lines(tests)
     long_texts(tests)
+    long_replies(tests)
     audits(tests)
     cuts(tests)
     arguments(tests)

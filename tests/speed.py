@@ -31,12 +31,16 @@ LABEL_PART = 3
 LEAST_GROWTH, MOST_GROWTH = 2, 8
 
 # What stands before and behind the number in a long label.
-LONG_FRONT, LONG_END = "61" * 14, "62" * 14
+LONG_FRONT, LONG_END = "61" * 100, "62" * 14
+
+
+# How calls end that are refused: digests without room, and queries of destroyed objects.
+REFUSED_ENDS = " 31", " 3:7"
 
 
 def refused_of(calls):
-    """How many of these calls may be refused: some of other_calls, and digests without room."""
-    return sum(call in REFUSED_CALLS or call.endswith(" 31") for call in calls)
+    """How many of these calls may be refused: some of other_calls, and those that end so."""
+    return sum(call in REFUSED_CALLS or call.endswith(REFUSED_ENDS) for call in calls)
 
 
 def seconds_of(tests, calls, words=()):
@@ -124,13 +128,23 @@ def single_results(count):
     return ["1 FindObjectsInit 1 -"] + ["1 FindObjects 1 1"] * count
 
 
-def scattered(count):
-    """Calls that create objects in threes, destroy two of each, and then look at those left, four
-    times at each."""
-    made = [line for number in range(count) for line in (
+def thirds(count):
+    """Calls that create objects in threes, and destroy two of each."""
+    return [line for number in range(count) for line in (
         *["1 CreateObject 1 0=0000000000000000"] * 3,
         f"1 DestroyObject 1 {3 * number + 1}", f"1 DestroyObject 1 {3 * number + 2}")]
-    return made + [f"1 GetAttributeValue 1 {3 * number + 3} 3:8" for number in range(count)] * 4
+
+
+def scattered(count):
+    """These calls, and then looks at those objects that are left, four times at each."""
+    return thirds(count) + [
+        f"1 GetAttributeValue 1 {3 * number + 3} 3:8" for number in range(count)] * 4
+
+
+def missing(count):
+    """These calls, and then queries of the destroyed objects."""
+    return thirds(count) + [f"1 GetAttributeValue 1 {3 * number + place} 3:7"
+                            for number in range(count) for place in (1, 2)]
 
 
 def turnover(count):
@@ -147,6 +161,17 @@ def keys(count, placement="2=00"):
     identifier of its own."""
     return [f"1 CreateObject 1 0=0400000000000000,100=1000000000000000,11=00,{placement},"
             f"3={number:08x},102={number:08x}" for number in range(count)]
+
+
+def key_states(count):
+    """Calls that create keys, and set the state of each."""
+    return keys(count) + [f"1 SetKeyState 1 {number + 1} 5" for number in range(count)]
+
+
+def signatures(count):
+    """Calls that create keys, and sign by each."""
+    return keys(count) + [line for number in range(count) for line in (
+        f"1 SignInit 1 251 {number + 1}", "1 Sign 1 61 32")]
 
 
 def sessions(count, objects=0, closing="CloseSession {}", opening=(), kind="2=00"):
@@ -295,6 +320,9 @@ EVEN = [
     ("results of a search, all at once", lambda count: [
         *creations(count), "1 FindObjectsInit 1 -", f"1 FindObjects 1 {count}"]),
     ("objects among missing ones", scattered),
+    ("missing objects among others", missing),
+    ("key states among keys", key_states),
+    ("signatures among keys", signatures),
     ("objects that come and go in twos beside others", turnover),
     ("sessions with an object each, one after the other", lambda count: sessions(count, 1)),
     ("sessions with two objects each, one after the other", lambda count: sessions(count, 2)),
@@ -308,6 +336,9 @@ EVEN = [
     ("sessions beside private objects of another",
      lambda count: private_objects(count, "00")[:-1] + sessions(count)),
     ("sessions beside objects of another", lambda count: creations(count) + sessions(count)),
+    ("sessions that are all closed, beside token objects", lambda count: [
+        *[f"{call},1=01" for call in creations(count)],
+        *sessions(count, closing="CloseAllSessions")]),
     ("logins beside objects", lambda count: creations(count) + logins(count)),
     ("logins beside private objects",
      lambda count: private_objects(count) + logins(count, "1 Login 1 1 75736572")),

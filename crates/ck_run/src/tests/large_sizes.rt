@@ -40,17 +40,30 @@ fn create_objects(alloc: Global, token: &mut Token, count: u64) -> Result<(), Fa
     Ok(())
 }
 
-/// How many objects a cut keeps.
+/// How many objects a cut keeps, besides one with a long value.
 const KEPT: u64 = 70_000;
+
+/// Creates a token object with a long value in session 1.
+fn create_long_object(alloc: Global, token: &mut Token) -> Result<(), Fail> {
+    let value = vec![in alloc; 7u8; VALUE]?;
+    let template = Template::new(alloc)
+        .class(Class::Data)?
+        .flag(Attribute::Token, true)?
+        .bytes(Attribute::Value, &value)?;
+    let session = 1;
+    token.try_call(alloc, 1, Call::CreateObject { session, template })?;
+    Ok(())
+}
 
 /// Cuts the journal of a new token with many objects. It goes on from there.
 fn check_kept_objects(rt: &impl Abort, alloc: Global, token: &mut Token) -> Result<(), Fail> {
     create_objects(alloc, token, KEPT)?;
+    create_long_object(alloc, token)?;
     token.try_call(alloc, 1, Call::CloseSession { session: 1 })?;
     token.cut(alloc)?;
     assert_eq!(rt; token.journal().len(), 0);
     token.try_call(alloc, 1, Call::OpenSession { flags: READ_WRITE })?;
-    assert_eq!(rt; create_object(alloc, token, 2)?, KEPT + 1);
+    assert_eq!(rt; create_object(alloc, token, 2)?, KEPT + 2);
     assert_eq!(rt; audit_token(alloc, token)?, Verdict::Legal);
     Ok(())
 }
@@ -146,7 +159,7 @@ const FLAGS: [Attribute; 10] = [
     Attribute::Wrap,
 ];
 
-/// How many bytes a value has in a template that a program makes.
+/// How many bytes a long value has.
 const VALUE: usize = 300_000;
 
 /// A template with the flags and with a long value.
@@ -197,14 +210,17 @@ fn a_run_may_be_long(rt: HostRuntime) -> Result<(), Fail> {
     Ok(())
 }
 
-/// For how many entries room is reserved.
+/// For how many entries room is reserved, and for fewer than how many more there may be room then.
 const RESERVED: u64 = 100_000;
+
+const MORE: u64 = 512;
 
 #[test]
 fn room_is_made_for_many_entries(rt: HostRuntime) -> Result<(), Fail> {
     let mut token = new_token(rt.alloc());
     token.reserve(RESERVED)?;
     assert!(rt; token.spare() >= RESERVED);
+    assert!(rt; token.spare() < RESERVED + MORE);
     Ok(())
 }
 

@@ -13,6 +13,9 @@ use std::time::{CpuClock, Duration};
 /// From how many bytes on a message is long.
 const LONG: usize = 4_096;
 
+/// How many bytes a message has whose times are compared, too.
+const SHORTER: usize = 1 << 14;
+
 /// The most bytes that a call brings.
 const LONGEST: usize = 1 << 20;
 
@@ -45,8 +48,9 @@ const OTHER_MECHANISMS: [Mechanisms; 4] = [
 /// The parameter of a general HMAC: the length of its signatures.
 const TAG_LENGTH: u64 = 8;
 
-/// How many calls a token has answered before the others.
-const EARLIER_CALLS: u32 = 20_000;
+/// How many calls a token has answered before the others, and answers between taking in a message
+/// and its call.
+const OTHER_CALLS: u32 = 20_000;
 
 /// The length of messages, the room for what they give, and how many of three single-part messages
 /// and of three pieces are taken in.
@@ -143,6 +147,14 @@ fn new_token(alloc: Global) -> Token {
     Token::new(alloc, Limits::largest())
 }
 
+/// Makes many calls that change no operation.
+fn make_other_calls(alloc: Global, token: &mut Token) -> Result<(), Fail> {
+    for _ in 0..OTHER_CALLS {
+        token.try_call(alloc, 1, Call::GetTokenInfo)?;
+    }
+    Ok(())
+}
+
 /// Opens session 1 of a new token, creates a key that anybody may use, and makes many calls. Gives
 /// the key's handle.
 fn create_key(alloc: Global, token: &mut Token) -> Result<u64, Fail> {
@@ -151,9 +163,7 @@ fn create_key(alloc: Global, token: &mut Token) -> Result<u64, Fail> {
     token.try_call(alloc, 1, Call::OpenSession { flags: READ_WRITE })?;
     let template = Template::secret_key(alloc, b"Jefe")?.flag(Attribute::Private, false)?;
     let created = token.try_call(alloc, 1, Call::CreateObject { session, template })?;
-    for _ in 0..EARLIER_CALLS {
-        token.try_call(alloc, 1, Call::GetTokenInfo)?;
-    }
+    make_other_calls(alloc, token)?;
     Ok(created.handle().ok_or("no key")?)
 }
 
@@ -256,7 +266,7 @@ impl Times {
     }
 }
 
-/// Takes in the message of a call, and makes the call.
+/// Takes in the message of a call, makes many others, and then the call.
 fn times_of<R: CpuClock>(
     rt: &R,
     alloc: Global,
@@ -267,11 +277,13 @@ fn times_of<R: CpuClock>(
     let mut work = JournaledToken::work(token, &call).ok_or("no work")?;
     work.finish(&call);
     let taken_in = rt.process_cpu_time()?;
+    make_other_calls(alloc, token)?;
+    let called = rt.process_cpu_time()?;
     JournaledToken::call_after(token, alloc, 1, call, Some(&work))?;
     let made = rt.process_cpu_time()?;
     Ok(Times {
         before: taken_in.saturating_sub(start),
-        in_call: made.saturating_sub(taken_in),
+        in_call: made.saturating_sub(called),
     })
 }
 
@@ -282,54 +294,74 @@ enum Form {
     Pieces,
 }
 
-/// The calls of session 1 with the longest messages.
-fn longest_calls(alloc: Global, form: Form) -> Result<Vec<Call>, NoMemory> {
-    match form {
-        Form::SinglePart => single_part_calls(alloc, LONGEST, MOST_ROOM),
-        Form::Pieces => piece_calls(alloc, LONGEST),
+/// Messages of one length, and the mechanisms that take them.
+#[derive(Clone, Copy)]
+struct Messages {
+    form: Form,
+    length: usize,
+    mechanisms: Mechanisms,
+}
+
+impl Messages {
+    /// The longest messages.
+    fn longest(form: Form, mechanisms: Mechanisms) -> Messages {
+        Messages {
+            form,
+            length: LONGEST,
+            mechanisms,
+        }
+    }
+
+    /// Messages that are still long, for SHA-256.
+    fn shorter(form: Form) -> Messages {
+        Messages {
+            form,
+            length: SHORTER,
+            mechanisms: BY_SHA256,
+        }
+    }
+
+    /// The calls of session 1 that bring them.
+    fn calls(self, alloc: Global) -> Result<Vec<Call>, NoMemory> {
+        match self.form {
+            Form::SinglePart => single_part_calls(alloc, self.length, MOST_ROOM),
+            Form::Pieces => piece_calls(alloc, self.length),
+        }
     }
 }
 
-/// Makes the calls with the longest messages on a new token, and lowers to their times the least
-/// ones so far.
+/// Makes the calls with these messages on a new token, and lowers to their times the least ones so
+/// far.
 fn lower_times<R: CpuClock>(
     rt: &R,
     alloc: Global,
     token: &mut Token,
-    (form, mechanisms): (Form, Mechanisms),
+    messages: Messages,
     least: &mut [Times],
 ) -> Result<(), Fail> {
-    begin_all(alloc, token, mechanisms)?;
-    for (call, times) in longest_calls(alloc, form)?.into_iter().zip(least) {
+    begin_all(alloc, token, messages.mechanisms)?;
+    for (call, times) in messages.calls(alloc)?.into_iter().zip(least) {
         *times = times.least(times_of(rt, alloc, token, call)?);
     }
     Ok(())
 }
 
 /// The least times of the three calls.
-fn least_times<R: CpuClock>(
-    rt: &R,
-    alloc: Global,
-    calls: (Form, Mechanisms),
-) -> Result<[Times; 3], Fail> {
+fn least_times<R: CpuClock>(rt: &R, alloc: Global, messages: Messages) -> Result<[Times; 3], Fail> {
     let longest = Times {
         before: Duration::MAX,
         in_call: Duration::MAX,
     };
     let mut least = [longest; 3];
     for _ in 0..TRIES {
-        lower_times(rt, alloc, &mut new_token(alloc), calls, &mut least)?;
+        lower_times(rt, alloc, &mut new_token(alloc), messages, &mut least)?;
     }
     Ok(least)
 }
 
 /// Each call takes far less time than its message took before.
-fn check_times<R: Abort + CpuClock>(
-    rt: &R,
-    alloc: Global,
-    calls: (Form, Mechanisms),
-) -> Result<(), Fail> {
-    for Times { before, in_call } in least_times(rt, alloc, calls)? {
+fn check_times<R: Abort + CpuClock>(rt: &R, alloc: Global, messages: Messages) -> Result<(), Fail> {
+    for Times { before, in_call } in least_times(rt, alloc, messages)? {
         assert!(rt; in_call.saturating_mul(5) < before);
     }
     Ok(())
@@ -337,18 +369,28 @@ fn check_times<R: Abort + CpuClock>(
 
 #[test]
 fn single_part_messages_are_taken_in_once(rt: HostRuntime) -> Result<(), Fail> {
-    check_times(&rt, rt.alloc(), (Form::SinglePart, BY_SHA256))
+    check_times(
+        &rt,
+        rt.alloc(),
+        Messages::longest(Form::SinglePart, BY_SHA256),
+    )?;
+    check_times(&rt, rt.alloc(), Messages::shorter(Form::SinglePart))
 }
 
 #[test]
 fn pieces_are_taken_in_once(rt: HostRuntime) -> Result<(), Fail> {
-    check_times(&rt, rt.alloc(), (Form::Pieces, BY_SHA256))
+    check_times(&rt, rt.alloc(), Messages::longest(Form::Pieces, BY_SHA256))?;
+    check_times(&rt, rt.alloc(), Messages::shorter(Form::Pieces))
 }
 
 #[test]
 fn messages_are_taken_in_once_with_each_mechanism(rt: HostRuntime) -> Result<(), Fail> {
     for mechanisms in OTHER_MECHANISMS {
-        check_times(&rt, rt.alloc(), (Form::SinglePart, mechanisms))?;
+        check_times(
+            &rt,
+            rt.alloc(),
+            Messages::longest(Form::SinglePart, mechanisms),
+        )?;
     }
     Ok(())
 }
