@@ -379,16 +379,19 @@ class Tests:
         return code, read(self.file("errors")).decode()
 
     def initialize_with_closed(self, closed, **variables):
-        """The code of C_Initialize where these descriptors are closed, which a file gets first."""
+        """The code of C_Initialize where these descriptors are closed, which a file gets first. No
+        file may have one of them afterwards."""
         sys.stdout.flush()
         sys.stderr.flush()
         kept = [(number, os.dup(number)) for number in closed]
         for number in closed:
             os.close(number)
         code = self.module.initialize(**variables)
+        left = [number for number in closed if os.path.lexists(f"/proc/self/fd/{number}")]
         for number, copy in kept:
             os.dup2(copy, number)
             os.close(copy)
+        self.checks.equal(left, [], f"which of {closed} are open behind C_Initialize")
         return code
 
     @contextlib.contextmanager
@@ -464,13 +467,16 @@ class Tests:
         self.end()
         name = self.file(f"%-%{numbers[0] + 3}-%x.cases")
         self.checks.check(os.path.exists(name), "a % before another letter stays")
-        # one that couldn't be begun counts, too, and a child of a fork counts on
+        # one whose name has no number counts, too, and one that couldn't be begun, and a child of a
+        # fork counts on
+        self.begin(JOURNAL=self.file("without_number.cases"))
+        self.end()
         code, _ = self.initialize(JOURNAL=self.file("none/%n"))
         self.checks.equal(code, GENERAL_ERROR, "C_Initialize with a file in no folder")
         path = self.file("child-%n.cases")
         with self.child_of_fork(lambda: [str(self.module.initialize(JOURNAL=path))]) as seen:
             self.checks.equal(seen, ["0"], "C_Initialize in a child of a fork")
-        name = self.file(f"child-{numbers[0] + 5}.cases")
+        name = self.file(f"child-{numbers[0] + 6}.cases")
         self.checks.check(os.path.exists(name), "the number of a child's journal")
         Worker(self.path, JOURNAL=self.file("first-%n.cases")).end()
         self.checks.check(os.path.exists(self.file("first-1.cases")), "a process begins at 1")
@@ -530,11 +536,15 @@ class Tests:
 
     def test_no_label(self):
         """A comment that is nearly a label's line is only a comment."""
-        path, before = self.file("no_label.script"), "62" * 32
-        for text in ["61" * 31, "61" * 33, "6g" * 32, "g6" * 32, "6A" * 32]:
-            write(path, f"# label {before}\n# label {text}\n1 InitToken 31323334\n".encode())
+        path, before, other = self.file("no_label.script"), "62" * 32, "61" * 32
+        texts = ["61" * 31, "61" * 31 + "6", other + "6", "61" * 33, "6g" * 32, "g6" * 32,
+                 "6A" * 32]
+        comments = [f"# label {text}" for text in texts]
+        comments += [start + other for start in ["# hash: ", "#-label ", "# label:"]]
+        for comment in comments:
+            write(path, f"# label {before}\n{comment}\n1 InitToken 31323334\n".encode())
             self.begin(SCRIPT=path)
-            self.checks.equal(bytes(self.module.token_info()[1].label).hex(), before, text)
+            self.checks.equal(bytes(self.module.token_info()[1].label).hex(), before, comment)
             self.end()
 
     def test_script(self):
@@ -559,6 +569,10 @@ class Tests:
         os.symlink(script, self.file("link"))
         self.begin(SCRIPT=self.file("link"))
         self.checks.equal(self.module.say("1 GetTokenInfo"), "0 40c 64 0 0", "without a file")
+        self.end()
+        self.checks.equal(self.initialize_with_closed((0,), SCRIPT=script), 0,
+                          "C_Initialize where standard input is closed")
+        self.checks.equal(self.module.say("1 GetTokenInfo"), "0 40c 64 0 0", "the script's token")
         self.end()
         support.audit(self.checks, self.ck_cases, path)
 
@@ -863,11 +877,18 @@ class Tests:
     def test_beginning(self):
         """A file that is a beginning of the header is a new one, and no other comment is."""
         path, header = self.file("beginning.cases"), HEADER.encode()
+        script, call = self.file("beginning.script"), b"1 InitToken 31323334"
+        write(script, call)
         for content in [b"#", b"# The", header[:-1]]:
             write(path, content)
             self.begin(TOKEN=path)
             self.end()
             self.checks.equal(read(path), header, f"the file that was {content}")
+            write(path, content)
+            self.begin(TOKEN=path, SCRIPT=script)
+            self.end()
+            self.checks.equal(read(path), header + call + b" -> 0\n1 CloseAllSessions -> 0\n",
+                              f"the file that was {content}, with a script")
         for content in [b"##", b"#\n", b"# The\n", b"# Their", header[:-2] + b"x",
                         header[:-1].upper()]:
             write(path, content)
@@ -934,6 +955,19 @@ class Tests:
         third.end()
         support.audit(self.checks, self.ck_cases, path)
 
+    def check_not_empty(self, pattern, path):
+        """A file that isn't empty is no new journal."""
+        content = read(path)
+        code, errors = self.initialize(JOURNAL=pattern)
+        self.checks.equal(code, GENERAL_ERROR, f"C_Initialize with {content[:40]}")
+        self.checks.equal(errors, f"ospreyrack: OSPREYRACK_JOURNAL: {path}: the file is there and "
+                          "isn't empty\n", "the errors")
+        self.checks.equal(self.module.say("1 GetTokenInfo"), f"{NOT_INITIALIZED:x}",
+                          "a call after it")
+        self.checks.equal(read(path), content, "the file")
+        if code == 0:
+            self.end()
+
     def test_second_run(self):
         """A second C_Initialize leaves the journal of the first run as it is, and says so."""
         for name in ["run.cases", "run-%p.cases"]:
@@ -945,18 +979,16 @@ class Tests:
                 self.say_all(calls)
                 self.end()
                 content = read(path)
-                code, errors = self.initialize(JOURNAL=pattern)
-                self.checks.equal(code, GENERAL_ERROR, "the second C_Initialize")
-                self.checks.equal(errors, f"ospreyrack: OSPREYRACK_JOURNAL: {path}: the file is "
-                                  "there and isn't empty\n", "the errors")
-                self.checks.equal(self.module.say("1 GetTokenInfo"), f"{NOT_INITIALIZED:x}",
-                                  "a call after it")
-                self.checks.equal(read(path), content, "the file")
+                self.check_not_empty(pattern, path)
                 self.begin(JOURNAL=self.file(f"other-{len(calls)}-{name}"))
                 self.checks.equal(self.module.say("1 GetTokenInfo"), "0 4 64 0 0", "a new token")
                 self.end()
                 self.checks.equal(read(path), content, "the file, beside another one")
             support.audit(self.checks, self.ck_cases, path)
+        # One byte is enough, even that with which a journal begins.
+        path = self.file("one_byte.cases")
+        write(path, b"#")
+        self.check_not_empty(path, path)
 
     def check_locked(self, path):
         worker = Worker(self.path, TOKEN=path)
@@ -1085,11 +1117,23 @@ class Tests:
         self.checks.equal(read(self.file("errors")).decode(), "ospreyrack: OSPREYRACK_TOKEN: a "
                           "call can't be written: the file was closed\n", "the errors of both")
 
+    def delete_one_by_one(self, path, other):
+        """A file of two names loses one, takes a call, and loses the other one."""
+        os.unlink(path)
+        self.checks.equal(self.module.say("1 OpenSession 6"), "0 1", "a call with one name left")
+        os.unlink(other)
+
     def test_lost_file(self):
         """A file that is deleted or cut short while its token is in use takes no more calls."""
+        path, other = self.file("linked.cases"), self.file("other_name.cases")
+        write(path, b"")
+        os.link(path, other)
         for name, change, what in [
                 ("deleted.cases", os.unlink, "deleted"),
-                ("shortened.cases", lambda path: os.truncate(path, len(HEADER)), "cut short")]:
+                ("linked.cases", lambda path: self.delete_one_by_one(path, other), "deleted"),
+                ("shortened.cases", lambda path: os.truncate(path, len(HEADER)), "cut short"),
+                ("one_byte_less.cases", lambda path: os.truncate(path, os.path.getsize(path) - 1),
+                 "cut short")]:
             path = self.file(name)
             self.begin(TOKEN=path)
             self.checks.equal(self.module.say("1 InitToken 31323334"), "0", "a call")
@@ -1110,6 +1154,35 @@ class Tests:
                 file.seek(0)
                 lines = file.read().decode().split("\n")
                 self.checks.check(f"{call} -> {reply}" in lines, f"{call} stands in the file")
+
+    def test_named_pipe(self):
+        """A pipe that has a name is no journal, and nothing is written to it."""
+        path = self.file("journal_fifo")
+        os.mkfifo(path)
+        reader = os.open(path, os.O_RDONLY | os.O_NONBLOCK)
+        code, errors = self.initialize(JOURNAL=path)
+        if code == 0:
+            self.end()
+        self.checks.equal(code, GENERAL_ERROR, "C_Initialize")
+        self.checks.equal(errors, f"ospreyrack: OSPREYRACK_JOURNAL: {path}: this is no regular "
+                          "file\n", "the errors")
+        self.checks.equal(os.read(reader, len(HEADER)), b"", "what is in the pipe")
+        os.close(reader)
+
+    def test_standard_input(self):
+        """Where no journal is kept, standard input stays as it is, and may be closed."""
+        path, content = self.file("input"), b"what the application reads\n"
+        write(path, content)
+        kept = os.dup(0)
+        with open(path, "r+b") as file:
+            os.dup2(file.fileno(), 0)
+        self.begin()
+        self.end()
+        os.dup2(kept, 0)
+        os.close(kept)
+        self.checks.equal(read(path), content, "the file that is standard input")
+        self.checks.equal(self.initialize_with_closed((0,)), 0, "C_Initialize where it is closed")
+        self.end()
 
     def begin_with_terminal(self, variable, path):
         """C_Initialize in a new session of processes, which no terminal controls: the terminal
@@ -1513,10 +1586,11 @@ class Tests:
     def test_seed(self):
         """Equal seeds make equal keys and random bytes, and others make others."""
         first, second, other = (self.seeded_run(seed) for seed in [7, 7, 8])
-        largest = self.seeded_run(2**64 - 1)
+        largest, zero = self.seeded_run(2**64 - 1), self.seeded_run(0)
         self.checks.equal(first, second, "two runs of one seed")
         self.checks.check(not set(first) & set(other), "another seed makes others")
         self.checks.check(not set(first) & set(largest), "the largest seed makes others")
+        self.checks.check(not set(first) & set(zero), "the seed 0 makes others")
 
     def test_nobody_reads_errors(self):
         """A line on standard error that nobody reads ends no process."""
@@ -1691,7 +1765,8 @@ TESTS = [Tests.test_file, Tests.test_counted_journals, Tests.test_mode, Tests.te
          Tests.test_cut_off, Tests.test_beginning, Tests.test_changed, Tests.test_lacking_reply,
          Tests.test_two_processes, Tests.test_second_run, Tests.test_fork,
          Tests.test_fork_that_stays, Tests.test_unseen_child, Tests.test_closed_file,
-         Tests.test_lost_file, Tests.test_nameless_file, Tests.test_terminal, Tests.test_exec,
+         Tests.test_lost_file, Tests.test_nameless_file, Tests.test_named_pipe,
+         Tests.test_standard_input, Tests.test_terminal, Tests.test_exec,
          Tests.test_exec_in_script, Tests.test_signals_in_script, Tests.test_exit,
          Tests.test_waiting, Tests.test_fork_in_initialize, Tests.test_unload,
          Tests.test_unload_with_functions, Tests.test_rights, Tests.test_kills, Tests.test_full,
