@@ -125,6 +125,7 @@ static const char added_line[] = "1 GetTokenInfo -> 0 4 64 0 0\n";
 static const char *added_file;         /* gets that line before the next lock is taken */
 static int lock_error;                 /* by which each lock of a file fails */
 static int status_error;               /* by which each fstat fails */
+static bool fails_once;                /* only the first of them does */
 static size_t left_statuses;           /* behind this many that don't */
 static dev_t added_to_device;          /* in what each fstat answers */
 static long reads_until_error = -1;    /* how many reads there are before one that fails; negative
@@ -163,10 +164,13 @@ int flock(int file, int operation) {
 
 int fstat(int file, struct stat *status) {
     int result = -1;
-    if (status_error == 0 || left_statuses > 0)
+    if (status_error == 0 || left_statuses > 0) {
         result = (int)syscall(SYS_fstat, file, status);
-    else
+    } else {
         errno = status_error;
+        if (fails_once)
+            status_error = 0;
+    }
     if (left_statuses > 0)
         left_statuses--;
     if (result == 0)
@@ -222,6 +226,15 @@ static void stop_thread(void) {
         pause();
 }
 
+/* How many signals the application has caught, and how many before the failing write has ended. */
+static volatile sig_atomic_t signals_caught;
+static int caught_in_write;
+
+static void catch_signal(int number) {
+    (void)number;
+    signals_caught++;
+}
+
 ssize_t write(int file, const void *bytes, size_t length) {
     if (file == STDERR_FILENO)
         return syscall(SYS_write, file, bytes, length);
@@ -233,6 +246,7 @@ ssize_t write(int file, const void *bytes, size_t length) {
     if (write_error != 0 || left_room == 0) {
         if (write_signal != 0)
             raise(write_signal);
+        caught_in_write = signals_caught;
         errno = write_error != 0 ? write_error : ENOSPC;
         return -1;
     }
@@ -1961,20 +1975,18 @@ static void test_errors_without_signals(void) {
         EXPECT(CKR_DEVICE_ERROR, get_token_info(&ignored));
         /* Bad arguments are told as such all the same. */
         EXPECT(CKR_ARGUMENTS_BAD, p11->C_DigestUpdate(1, NULL, 1));
+        /* A call that lacks memory can't be tried again with success. */
+        refuse_after(0);
+        EXPECT(CKR_DEVICE_ERROR, digest_long(&ignored));
+        CHECK(stop_refusing());
         end_library();
         unsetenv("OSPREYRACK_JOURNAL");
     }
 }
 
-static volatile sig_atomic_t signals_caught;
-
-static void catch_signal(int number) {
-    (void)number;
-    signals_caught++;
-}
-
-/* While a write fails, somebody sends the thread a signal that doesn't come with this error. */
-static void check_other_signal(int error, int number) {
+/* While a write fails, somebody sends the thread a signal that doesn't come with this error. One
+ * that a write may raise waits until it has ended, and no other one does. */
+static void check_other_signal(int error, int number, bool waits) {
     struct result ignored;
     void (*before)(int) = signal(number, catch_signal);
     unlink(journal);
@@ -1987,17 +1999,19 @@ static void check_other_signal(int error, int number) {
     write_signal = 0;
     write_error = 0;
     check(signals_caught == 1, strerror(error));
+    check(caught_in_write == (waits ? 0 : 1), strsignal(number));
     end_library();
     unsetenv("OSPREYRACK_JOURNAL");
     signal(number, before);
 }
 
-/* It isn't the write's, and reaches the application behind it. */
+/* It isn't the write's, and reaches the application. */
 static void test_other_signals(void) {
-    check_other_signal(EFBIG, SIGPIPE);
-    check_other_signal(EPIPE, SIGXFSZ);
-    check_other_signal(ENOSPC, SIGPIPE);
-    check_other_signal(ENOSPC, SIGXFSZ);
+    check_other_signal(EFBIG, SIGPIPE, true);
+    check_other_signal(EPIPE, SIGXFSZ, true);
+    check_other_signal(ENOSPC, SIGPIPE, true);
+    check_other_signal(ENOSPC, SIGXFSZ, true);
+    check_other_signal(ENOSPC, SIGALRM, false);
 }
 
 /* The signal of a write is taken, although that is interrupted: else it would end the child. */
@@ -2083,19 +2097,24 @@ static void test_short_writes(void) {
 }
 
 /* A write that takes nothing, and says no error, isn't made again and again: the alarm would end
- * this program. */
+ * this program. It is told as one for which there is no room. */
 static void test_empty_writes(void) {
     enum { MOST_SECONDS = 60 };
     struct result ignored;
+    char said[1000];
     unlink(journal);
     setenv("OSPREYRACK_JOURNAL", journal, 1);
     begin_library();
     off_t length = length_of(journal);
     most_written = 0;
+    keep_errors();
     alarm(MOST_SECONDS);
     EXPECT(CKR_DEVICE_ERROR, get_token_info(&ignored));
     alarm(0);
     most_written = SIZE_MAX;
+    read_errors(said, sizeof said);
+    check(strcmp(said, "ospreyrack: OSPREYRACK_JOURNAL: a call can't be written: No space left on "
+                 "device\n") == 0, said);
     EXPECT(CKR_DEVICE_ERROR, get_token_info(&ignored));
     CHECK(length_of(journal) == length);
     end_library();
@@ -2140,9 +2159,18 @@ static void test_parts(void) {
     check_part(EIO, false, stays);
 }
 
-/* C_Initialize where each of these system calls fails: standard error says by what. */
+/* The lowest number that no open file has. */
+static int free_descriptor(void) {
+    int file = open("/dev/null", O_RDONLY);
+    close(file);
+    return file;
+}
+
+/* C_Initialize where each of these system calls fails: standard error says by what, and the file is
+ * closed. */
 static void check_fault(int *error, int number, const char *what) {
     char said[1000], expected[1000];
+    int descriptor = free_descriptor();
     unlink(journal);
     setenv("OSPREYRACK_JOURNAL", journal, 1);
     keep_errors();
@@ -2157,11 +2185,15 @@ static void check_fault(int *error, int number, const char *what) {
     check(strcmp(said, expected) == 0, said);
     if (code == CKR_OK)
         EXPECT(CKR_OK, p11->C_Finalize(NULL));
+    check(free_descriptor() == descriptor, "C_Initialize that fails closes the file");
 }
 
 static void test_faults_of_file(void) {
     check_fault(&lock_error, ENOLCK, journal);
     check_fault(&status_error, EIO, journal);
+    fails_once = true;
+    check_fault(&status_error, EIO, journal);
+    fails_once = false;
     /* The status is read again once the file is locked, and before the file is cut off. */
     left_statuses = 1;
     check_fault(&status_error, EIO, journal);
@@ -2173,19 +2205,24 @@ static void test_faults_of_file(void) {
 /* ---- The end of a process */
 
 static const char other_file[] = "other";
+static const char *file_behind_end = other_file;
 static int journal_descriptor;
-static CK_RV code_behind_end;
+static CK_RV code_behind_end, session_code_behind_end;
 
 /* The C library writes what is left in streams behind the end of each library. By then the file is
- * closed, and another one has its descriptor, in which the call's line has no place. */
-static ssize_t call_behind_end(void *cookie, const char *bytes, size_t length) {
+ * closed. Another one has its descriptor, or the same one does, which somebody has opened again: the
+ * lines of calls have no place there. */
+static ssize_t call_behind_end(void *cookie, const char *bytes, size_t ignored_length) {
     struct result ignored;
-    (void)cookie, (void)bytes, (void)length;
-    int other = open(other_file, O_RDWR | O_CREAT | O_TRUNC, 0600);
-    if (other != journal_descriptor)
+    (void)cookie, (void)bytes, (void)ignored_length;
+    int file = open(file_behind_end, O_RDWR | O_CREAT | O_APPEND, 0600);
+    off_t length = length_of(file_behind_end);
+    if (file != journal_descriptor)
         _exit(2);
     CK_RV code = get_token_info(&ignored);
-    _exit(code == code_behind_end && length_of(other_file) == 0 ? 0 : 1);
+    CK_RV session_code = get_session_info(&ignored);
+    _exit(code == code_behind_end && session_code == session_code_behind_end
+          && length_of(file_behind_end) == length ? 0 : 1);
 }
 
 static void end_as_child(void) {
@@ -2203,11 +2240,17 @@ static void end_as_child(void) {
 static void test_call_behind_end(void) {
     unlink(journal);
     setenv("OSPREYRACK_JOURNAL", journal, 1);
-    code_behind_end = CKR_DEVICE_ERROR;
+    code_behind_end = session_code_behind_end = CKR_DEVICE_ERROR;
     check(status_of_child(end_as_child) == 0, "a call behind the library's end");
     check_journal();
+    unlink(journal);
+    file_behind_end = journal;
+    check(status_of_child(end_as_child) == 0, "a call where the file is opened again");
+    check_journal();
+    file_behind_end = other_file;
     unsetenv("OSPREYRACK_JOURNAL");
     code_behind_end = CKR_OK;
+    session_code_behind_end = CKR_SESSION_HANDLE_INVALID;
     check(status_of_child(end_as_child) == 0, "a call behind the end of a library without a file");
 }
 
