@@ -125,6 +125,7 @@ static const char added_line[] = "1 GetTokenInfo -> 0 4 64 0 0\n";
 static const char *added_file;         /* gets that line before the next lock is taken */
 static int lock_error;                 /* by which each lock of a file fails */
 static int status_error;               /* by which each fstat fails */
+static bool fails_once;                /* only the first of them does */
 static size_t left_statuses;           /* behind this many that don't */
 static dev_t added_to_device;          /* in what each fstat answers */
 static long reads_until_error = -1;    /* how many reads there are before one that fails; negative
@@ -163,10 +164,13 @@ int flock(int file, int operation) {
 
 int fstat(int file, struct stat *status) {
     int result = -1;
-    if (status_error == 0 || left_statuses > 0)
+    if (status_error == 0 || left_statuses > 0) {
         result = (int)syscall(SYS_fstat, file, status);
-    else
+    } else {
         errno = status_error;
+        if (fails_once)
+            status_error = 0;
+    }
     if (left_statuses > 0)
         left_statuses--;
     if (result == 0)
@@ -222,6 +226,15 @@ static void stop_thread(void) {
         pause();
 }
 
+/* How many signals the application has caught, and how many before the failing write has ended. */
+static volatile sig_atomic_t signals_caught;
+static int caught_in_write;
+
+static void catch_signal(int number) {
+    (void)number;
+    signals_caught++;
+}
+
 ssize_t write(int file, const void *bytes, size_t length) {
     if (file == STDERR_FILENO)
         return syscall(SYS_write, file, bytes, length);
@@ -233,6 +246,7 @@ ssize_t write(int file, const void *bytes, size_t length) {
     if (write_error != 0 || left_room == 0) {
         if (write_signal != 0)
             raise(write_signal);
+        caught_in_write = signals_caught;
         errno = write_error != 0 ? write_error : ENOSPC;
         return -1;
     }
@@ -372,6 +386,15 @@ static CK_RV create_object(struct result *result) {
         {CKA_VALUE, text, sizeof text},
     };
     return p11->C_CreateObject(session, template, 4, &result->number);
+}
+
+/* Of more attributes than the list of them has room for at first. */
+static CK_RV create_with_many(struct result *result) {
+    enum { MANY = 40 };
+    CK_ATTRIBUTE template[MANY] = {{CKA_CLASS, &data_class, sizeof data_class}};
+    for (int i = 1; i < MANY; i++)
+        template[i] = (CK_ATTRIBUTE){CKA_PRIVATE, &no, sizeof no};
+    return p11->C_CreateObject(session, template, MANY, &result->number);
 }
 
 static CK_RV generate_key(struct result *result) {
@@ -579,6 +602,7 @@ static const struct growth growths[] = {
     {"C_GetMechanismList", get_mechanism_list, {NULL}},
     {"C_SessionCancel", session_cancel, {digest_init}},
     {"C_CreateObject", create_object, {NULL}},
+    {"C_CreateObject of many attributes", create_with_many, {NULL}},
     {"C_GenerateKey", generate_key, {NULL}},
     {"C_CopyObject", copy_object, {NULL}},
     {"C_GetAttributeValue", get_attribute_value, {NULL}},
@@ -831,6 +855,50 @@ static void test_line_ends(void) {
             check_line_end(count);
             end_library();
         }
+    }
+    unsetenv("OSPREYRACK_JOURNAL");
+}
+
+/* Lines with a blank, and with a comma, behind a value of this length. */
+static CK_RV verify_nothing(CK_ULONG length) {
+    CK_RV code = p11->C_Verify(session, text, length, text, 3);
+    return code == CKR_OPERATION_NOT_INITIALIZED ? CKR_OK : code;
+}
+
+static CK_RV find_two_attributes(CK_ULONG length) {
+    CK_ATTRIBUTE template[] = {{CKA_LABEL, text, length}, {CKA_APPLICATION, text, 3}};
+    CK_RV code = p11->C_FindObjectsInit(session, template, 2);
+    stop_refusing();
+    if (code == CKR_OK)
+        EXPECT(CKR_OK, p11->C_FindObjectsFinal(session));
+    return code;
+}
+
+/* A call whose line is longer than the room for lines is refused, whatever of the line comes behind
+ * that. The room stays as it is, since the first allocation of each call is refused. */
+static void check_line_room(CK_RV (*make)(CK_ULONG length), int sessions) {
+    enum { LONGEST = 150 };
+    CK_RV code = CKR_OK;
+    size_t wrong = 0;
+    begin_sessions(sessions);
+    for (CK_ULONG length = 0; length <= LONGEST; length++) {
+        refuse_after(0);
+        code = make(length);
+        bool was_refused = stop_refusing();
+        wrong += code != CKR_OK && !(was_refused && code == CKR_HOST_MEMORY);
+    }
+    CHECK(wrong == 0);
+    check_code(code, CKR_HOST_MEMORY, "a line that is longer than the room");
+    end_library();
+}
+
+/* A byte of the value has two digits: so in sessions of one digit or of two the room ends in front
+ * of the blank, and of the comma. */
+static void test_line_room(void) {
+    setenv("OSPREYRACK_JOURNAL", journal, 1);
+    for (int sessions = 1; sessions <= 10; sessions += 9) {
+        check_line_room(verify_nothing, sessions);
+        check_line_room(find_two_attributes, sessions);
     }
     unsetenv("OSPREYRACK_JOURNAL");
 }
@@ -1137,6 +1205,43 @@ static void test_verify_pieces(void) {
 
 static void test_verify_pieces_by_lines(void) {
     run_trials_by_lines(&verifying);
+}
+
+/* A session whose handle has three digits, where all lines before are short. */
+static void begin_longer_handle(void) {
+    begin_sessions(1);
+    for (int i = 1; i < 100; i++) {
+        EXPECT(CKR_OK, p11->C_CloseSession(session));
+        EXPECT(CKR_OK, p11->C_OpenSession(0, read_write, NULL, NULL, &session));
+    }
+    CHECK(session == 100);
+}
+
+/* Where the second piece finds no memory, there is room all the same for the line by which the
+ * operation ends, which is longer than those before: the token goes on. */
+static void test_longer_handle(void) {
+    struct result result;
+    size_t ended = 0;
+    long number = 0;
+    bool was_refused = true;
+    setenv("OSPREYRACK_JOURNAL", journal, 1);
+    for (; was_refused && number < MOST_GROWTHS; number++) {
+        begin_longer_handle();
+        EXPECT(CKR_OK, digest_init(&result));
+        refuses_all = true;
+        refuse_after(number);
+        CK_RV code = p11->C_DigestUpdate(session, large, sizeof large);
+        was_refused = stop_refusing();
+        refuses_all = false;
+        check_code(code, was_refused ? CKR_HOST_MEMORY : CKR_OK, "C_DigestUpdate");
+        CK_RV final_code = digest_final(&result);
+        bool has_ended = code != CKR_OK && final_code == CKR_OPERATION_NOT_INITIALIZED;
+        check_code(final_code, has_ended ? CKR_OPERATION_NOT_INITIALIZED : CKR_OK, "C_DigestFinal");
+        ended += has_ended;
+        end_library();
+    }
+    CHECK(ended > 0 && number < MOST_GROWTHS);
+    unsetenv("OSPREYRACK_JOURNAL");
 }
 
 /* Updates of one and of two whole pieces: no piece is empty, and the journal in memory is cut again
@@ -1474,13 +1579,15 @@ static const char kept[] = "kept.cases";
 
 static const char label_of_script[] = "a label                         ";
 
+static const char label_line[] =
+    "# label 61206c6162656c20202020202020202020202020202020202020202020202020\n";
+
 /* The label stands there so often that the journal's text takes memory for it. */
 static void write_script(void) {
     enum { LABELS = 8 };
     write_file(script, "", "w");
     for (int i = 0; i < LABELS; i++)
-        write_file(script, "# label 61206c6162656c"
-                   "20202020202020202020202020202020202020202020202020\n", "a");
+        write_file(script, label_line, "a");
     write_file(script, "1 InitToken 31323334\n1 OpenSession 6\n"
                "1 CreateObject 1 0=0000000000000000,1=01,2=00,3=6c6162656c -> 0 1\n", "a");
 }
@@ -1559,12 +1666,12 @@ static void drop_replies(char *content) {
     }
 }
 
+/* Where there is no file of the name, nothing is read. */
 static void read_journal(char *content, size_t room) {
     FILE *file = fopen(journal, "r");
-    if (file == NULL)
-        exit(2);
-    content[fread(content, 1, room - 1, file)] = '\0';
-    fclose(file);
+    content[file == NULL ? 0 : fread(content, 1, room - 1, file)] = '\0';
+    if (file != NULL)
+        fclose(file);
     drop_replies(content);
 }
 
@@ -1572,8 +1679,10 @@ static void note_expected_file(void) {
     EXPECT(CKR_OK, p11->C_Initialize(NULL));
     check_token();
     EXPECT(CKR_OK, p11->C_Finalize(NULL));
-    if (has_journal)
-        read_journal(expected_file, sizeof expected_file);
+    if (!has_journal)
+        return;
+    read_journal(expected_file, sizeof expected_file);
+    CHECK(expected_file[0] != '\0');
 }
 
 static void check_file(void) {
@@ -1622,12 +1731,13 @@ static void check_initialize(void (*prepare)(void)) {
     CHECK(number > 1 && number < MOST_GROWTHS);
 }
 
-/* The file's name has the process's number in it. */
-static void check_expanded_name(void) {
-    char before[sizeof journal];
+/* The file's name has the process's number in it. Its first part is what takes memory. */
+static void check_expanded_name(const char *start) {
+    char before[sizeof journal], name[sizeof journal];
     memcpy(before, journal, sizeof before);
-    snprintf(journal, sizeof journal, "of-%ld-and-%ld", (long)getpid(), (long)getpid());
-    setenv("OSPREYRACK_JOURNAL", "of-%p-and-%p", 1);
+    snprintf(journal, sizeof journal, "%s%ld-and-%ld", start, (long)getpid(), (long)getpid());
+    snprintf(name, sizeof name, "%s%%p-and-%%p", start);
+    setenv("OSPREYRACK_JOURNAL", name, 1);
     variable_of_file = "OSPREYRACK_JOURNAL";
     check_initialize(begin_without_file);
     unsetenv("OSPREYRACK_JOURNAL");
@@ -1650,7 +1760,8 @@ static void test_initialize(void) {
     check_initialize(begin_with_file);
     unsetenv("OSPREYRACK_TOKEN");
     variable_of_lines = "OSPREYRACK_SCRIPT";
-    check_expanded_name();
+    check_expanded_name("of-");
+    check_expanded_name("");
     unsetenv("OSPREYRACK_SCRIPT");
     for (size_t i = 0; i < LACKS; i++)
         check(is_told[i], lacks[i]);
@@ -1687,6 +1798,52 @@ static void test_last_call(void) {
         CHECK(!was_refused);
     }
     check(lacking > 0, "the script's variable is named");
+    unsetenv("OSPREYRACK_SCRIPT");
+    unsetenv("OSPREYRACK_JOURNAL");
+}
+
+/* A script of a call of this length and of labels. */
+static void write_labels(int length) {
+    enum { LABELS = 5 };
+    write_file(script, "1 DigestUpdate 1 ", "w");
+    for (int i = 0; i < length; i++)
+        write_file(script, "61", "a");
+    write_file(script, " -> b3\n", "a");
+    for (int i = 0; i < LABELS; i++)
+        write_file(script, label_line, "a");
+}
+
+/* Where C_Initialize succeeds although an allocation is refused, the labels stand in the file all
+ * the same. */
+static void check_labels(void) {
+    bool was_refused = true;
+    unlink(journal);
+    EXPECT(CKR_OK, p11->C_Initialize(NULL));
+    EXPECT(CKR_OK, p11->C_Finalize(NULL));
+    read_journal(expected_file, sizeof expected_file);
+    for (long number = 0; was_refused && number < MOST_GROWTHS; number++) {
+        unlink(journal);
+        refuse_after(number);
+        CK_RV code = p11->C_Initialize(NULL);
+        was_refused = stop_refusing();
+        if (code != CKR_OK)
+            continue;
+        EXPECT(CKR_OK, p11->C_Finalize(NULL));
+        check_file();
+    }
+    CHECK(!was_refused);
+}
+
+/* Calls of many lengths: behind one of them a label's digits fill the room that the file's text
+ * has. */
+static void test_labels(void) {
+    enum { LONGEST = 80 };
+    setenv("OSPREYRACK_SCRIPT", script, 1);
+    setenv("OSPREYRACK_JOURNAL", journal, 1);
+    for (int length = 1; length <= LONGEST; length++) {
+        write_labels(length);
+        check_labels();
+    }
     unsetenv("OSPREYRACK_SCRIPT");
     unsetenv("OSPREYRACK_JOURNAL");
 }
@@ -1961,20 +2118,18 @@ static void test_errors_without_signals(void) {
         EXPECT(CKR_DEVICE_ERROR, get_token_info(&ignored));
         /* Bad arguments are told as such all the same. */
         EXPECT(CKR_ARGUMENTS_BAD, p11->C_DigestUpdate(1, NULL, 1));
+        /* A lack of memory isn't told: the call can't be made again. */
+        refuse_after(0);
+        EXPECT(CKR_DEVICE_ERROR, digest_long(&ignored));
+        CHECK(stop_refusing());
         end_library();
         unsetenv("OSPREYRACK_JOURNAL");
     }
 }
 
-static volatile sig_atomic_t signals_caught;
-
-static void catch_signal(int number) {
-    (void)number;
-    signals_caught++;
-}
-
-/* While a write fails, somebody sends the thread a signal that doesn't come with this error. */
-static void check_other_signal(int error, int number) {
+/* While a write fails, somebody sends the thread a signal that doesn't come with this error. One
+ * that a write may raise waits until it has ended, and no other one does. */
+static void check_other_signal(int error, int number, bool waits) {
     struct result ignored;
     void (*before)(int) = signal(number, catch_signal);
     unlink(journal);
@@ -1987,17 +2142,19 @@ static void check_other_signal(int error, int number) {
     write_signal = 0;
     write_error = 0;
     check(signals_caught == 1, strerror(error));
+    check(caught_in_write == (waits ? 0 : 1), strsignal(number));
     end_library();
     unsetenv("OSPREYRACK_JOURNAL");
     signal(number, before);
 }
 
-/* It isn't the write's, and reaches the application behind it. */
+/* It isn't the write's, and reaches the application. */
 static void test_other_signals(void) {
-    check_other_signal(EFBIG, SIGPIPE);
-    check_other_signal(EPIPE, SIGXFSZ);
-    check_other_signal(ENOSPC, SIGPIPE);
-    check_other_signal(ENOSPC, SIGXFSZ);
+    check_other_signal(EFBIG, SIGPIPE, true);
+    check_other_signal(EPIPE, SIGXFSZ, true);
+    check_other_signal(ENOSPC, SIGPIPE, true);
+    check_other_signal(ENOSPC, SIGXFSZ, true);
+    check_other_signal(ENOSPC, SIGALRM, false);
 }
 
 /* The signal of a write is taken, although that is interrupted: else it would end the child. */
@@ -2083,19 +2240,24 @@ static void test_short_writes(void) {
 }
 
 /* A write that takes nothing, and says no error, isn't made again and again: the alarm would end
- * this program. */
+ * this program. It is told as one for which there is no room. */
 static void test_empty_writes(void) {
     enum { MOST_SECONDS = 60 };
     struct result ignored;
+    char said[1000];
     unlink(journal);
     setenv("OSPREYRACK_JOURNAL", journal, 1);
     begin_library();
     off_t length = length_of(journal);
     most_written = 0;
+    keep_errors();
     alarm(MOST_SECONDS);
     EXPECT(CKR_DEVICE_ERROR, get_token_info(&ignored));
     alarm(0);
     most_written = SIZE_MAX;
+    read_errors(said, sizeof said);
+    check(strcmp(said, "ospreyrack: OSPREYRACK_JOURNAL: a call can't be written: No space left on "
+                 "device\n") == 0, said);
     EXPECT(CKR_DEVICE_ERROR, get_token_info(&ignored));
     CHECK(length_of(journal) == length);
     end_library();
@@ -2140,9 +2302,18 @@ static void test_parts(void) {
     check_part(EIO, false, stays);
 }
 
-/* C_Initialize where each of these system calls fails: standard error says by what. */
+/* The lowest number that no open file has. */
+static int free_descriptor(void) {
+    int file = open("/dev/null", O_RDONLY);
+    close(file);
+    return file;
+}
+
+/* C_Initialize where each of these system calls fails: standard error says by what, and the file is
+ * closed. */
 static void check_fault(int *error, int number, const char *what) {
     char said[1000], expected[1000];
+    int descriptor = free_descriptor();
     unlink(journal);
     setenv("OSPREYRACK_JOURNAL", journal, 1);
     keep_errors();
@@ -2157,11 +2328,15 @@ static void check_fault(int *error, int number, const char *what) {
     check(strcmp(said, expected) == 0, said);
     if (code == CKR_OK)
         EXPECT(CKR_OK, p11->C_Finalize(NULL));
+    check(free_descriptor() == descriptor, "C_Initialize that fails closes the file");
 }
 
 static void test_faults_of_file(void) {
     check_fault(&lock_error, ENOLCK, journal);
     check_fault(&status_error, EIO, journal);
+    fails_once = true;
+    check_fault(&status_error, EIO, journal);
+    fails_once = false;
     /* The status is read again once the file is locked, and before the file is cut off. */
     left_statuses = 1;
     check_fault(&status_error, EIO, journal);
@@ -2173,19 +2348,24 @@ static void test_faults_of_file(void) {
 /* ---- The end of a process */
 
 static const char other_file[] = "other";
+static const char *file_behind_end = other_file;
 static int journal_descriptor;
-static CK_RV code_behind_end;
+static CK_RV code_behind_end, session_code_behind_end;
 
 /* The C library writes what is left in streams behind the end of each library. By then the file is
- * closed, and another one has its descriptor, in which the call's line has no place. */
-static ssize_t call_behind_end(void *cookie, const char *bytes, size_t length) {
+ * closed. Another one has its descriptor, or the same one, which was opened again: the lines of
+ * calls have no place there. */
+static ssize_t call_behind_end(void *cookie, const char *bytes, size_t ignored_length) {
     struct result ignored;
-    (void)cookie, (void)bytes, (void)length;
-    int other = open(other_file, O_RDWR | O_CREAT | O_TRUNC, 0600);
-    if (other != journal_descriptor)
+    (void)cookie, (void)bytes, (void)ignored_length;
+    int file = open(file_behind_end, O_RDWR | O_CREAT | O_APPEND, 0600);
+    off_t length = length_of(file_behind_end);
+    if (file != journal_descriptor)
         _exit(2);
     CK_RV code = get_token_info(&ignored);
-    _exit(code == code_behind_end && length_of(other_file) == 0 ? 0 : 1);
+    CK_RV session_code = get_session_info(&ignored);
+    _exit(code == code_behind_end && session_code == session_code_behind_end
+          && length_of(file_behind_end) == length ? 0 : 1);
 }
 
 static void end_as_child(void) {
@@ -2203,11 +2383,17 @@ static void end_as_child(void) {
 static void test_call_behind_end(void) {
     unlink(journal);
     setenv("OSPREYRACK_JOURNAL", journal, 1);
-    code_behind_end = CKR_DEVICE_ERROR;
+    code_behind_end = session_code_behind_end = CKR_DEVICE_ERROR;
     check(status_of_child(end_as_child) == 0, "a call behind the library's end");
     check_journal();
+    unlink(journal);
+    file_behind_end = journal;
+    check(status_of_child(end_as_child) == 0, "a call where the file is opened again");
+    check_journal();
+    file_behind_end = other_file;
     unsetenv("OSPREYRACK_JOURNAL");
     code_behind_end = CKR_OK;
+    session_code_behind_end = CKR_SESSION_HANDLE_INVALID;
     check(status_of_child(end_as_child) == 0, "a call behind the end of a library without a file");
 }
 
@@ -2281,12 +2467,14 @@ static void test_end_beside_call(void) {
 }
 
 static const struct test tests[] = {
-    {"each growth of 43 calls is refused, typed", test_typed},
-    {"each growth of 43 calls is refused, by lines", test_by_lines},
+    {"each growth of 44 calls is refused, typed", test_typed},
+    {"each growth of 44 calls is refused, by lines", test_by_lines},
     {"each call's line is written when it is answered, and at once", test_lines},
     {"lines of all lengths end where there is no memory for their replies", test_line_ends},
+    {"a line that is longer than the room for lines, wherever that ends", test_line_room},
     {"each growth of C_Initialize is refused, with a script and a file", test_initialize},
     {"a script behind which the last call lacks memory", test_last_call},
+    {"labels of a script, which end where there is no memory for the file's text", test_labels},
     {"a script with a wrong reply, and each growth of C_Initialize is refused", test_wrong_reply},
     {"each growth of C_Initialize is refused, with the application's mutexes", test_mutexes},
     {"C_Initialize where the system refuses the library's function for forks", test_registration},
@@ -2301,6 +2489,8 @@ static const struct test tests[] = {
     {"verifying in pieces without memory takes nothing or ends, typed", test_verify_pieces},
     {"verifying in pieces without memory takes nothing or ends, by lines",
      test_verify_pieces_by_lines},
+    {"an update in pieces that ends without memory, in a session of a longer handle",
+     test_longer_handle},
     {"updates of one and of two whole pieces", test_whole_pieces},
     {"the system's random bytes are drawn while the lock is free", test_random_without_lock},
     {"a long message is copied while the lock is free", test_copies_without_lock},
@@ -2329,7 +2519,8 @@ static const struct test tests[] = {
     {"a file on another device that has the file's descriptor and its number", test_other_device},
     {"a line that is written in part, and a part that can't be cut off", test_parts},
     {"a file whose status can't be read, and one that can't be locked", test_faults_of_file},
-    {"a call behind the library's end writes nothing to another file", test_call_behind_end},
+    {"calls behind the library's end write nothing to a file that has the descriptor",
+     test_call_behind_end},
     {"a call that another thread is in keeps the file at the library's end", test_end_beside_call},
 };
 
