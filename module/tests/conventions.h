@@ -45,6 +45,9 @@ extern int mutexes, locks, unlocks, destroyed, depth;
 extern int locks_until_change, unlocks_until_change;
 extern void (*change)(void);
 
+/* How many locks had been taken when the last change was made. */
+extern int locks_at_change;
+
 /* The last of this many locks fails, and before that this change is made. */
 extern int locks_until_failure;
 extern void (*change_at_failure)(void);

@@ -420,8 +420,10 @@ static void test_control_bytes(void) {
     char text[2000];
     check_variable("OSPREYRACK_SEED", "1\n2", ", and not 1?2\n");
     check_variable("OSPREYRACK_CUT", "\x1b[31m\t\x7f\r\x1f ", ", and not ?[31m???? \n");
-    check_variable("OSPREYRACK_CUT", "\xc3\xa9~", ", and not \xc3\xa9~\n");
-    check_variable("OSPREYRACK_CUT", "\xc2\x80\xc2\x9b" "2J\xc2\xa0", ", and not ????2J\xc2\xa0\n");
+    check_variable("OSPREYRACK_CUT", "\xc3\xa9\xc3\x9f\xe2\x80\x9c~",
+                   ", and not \xc3\xa9\xc3\x9f\xe2\x80\x9c~\n");
+    check_variable("OSPREYRACK_CUT", "\xc2\x80\xc2\x9b" "2J\xc2\x9f\xc2\xa0",
+                   ", and not ????2J??\xc2\xa0\n");
     check_variable("OSPREYRACK_CUT", "\xc2", ", and not \xc2\n");
     check_variable("OSPREYRACK_SCRIPT", "/not\nthere", ": /not?there: the file can't be opened: ");
     write_file("control_bytes", "1 InitToken 31323334 -> \x1b[2J\n");
@@ -488,6 +490,7 @@ static const char other_limits[] = "limits 64 9 9 9\n1 InitToken 31323334 -> 0\n
 static const char late_limits[] = "1 InitToken 31323334 -> 0\nlimits largest\n";
 static const char with_returns[] = "limits largest\r\n1 InitToken 31323334 -> 0\r\n";
 static const char return_behind_call[] = "limits largest\n1 InitToken 31323334\r\n";
+static const char return_behind_reply[] = "limits largest\n1 OpenSession six -> 0 1\r\n";
 
 static bool has_length(const char *name, size_t expected) {
     struct stat status;
@@ -510,6 +513,8 @@ static void test_no_journals(void) {
         {"with_returns", with_returns, "line 1: a carriage return stands at the end of the line"},
         {"return_behind_call", return_behind_call,
          "line 2: a carriage return stands at the end of the line"},
+        {"return_behind_reply", return_behind_reply,
+         "line 2: a carriage return stands at the end of the line"},
     };
     for (size_t i = 0; i < sizeof files / sizeof *files; i++) {
         write_file(files[i].name, files[i].text);
@@ -518,10 +523,27 @@ static void test_no_journals(void) {
     }
 }
 
+/* Scripts that aren't answered to their ends. What stands in front of a bad line, such as limits or
+ * a reply, makes it no better. */
+static void check_bad_scripts(void) {
+    static const struct { const char *name, *text, *part; } scripts[] = {
+        {"bad_code", "1 InitToken 313233\n", "bad_code, line 1: the reply is a2\n"},
+        {"code_behind_limits", "limits largest\n1 InitToken 313233\n",
+         "line 2: the reply is a2\n"},
+        {"code_behind_reply", "1 InitToken 31323334 -> 0\n1 CloseSession 1\n",
+         "line 2: the reply is b3\n"},
+        {"late_limits_of_script", "1 InitToken 31323334\nlimits largest\n",
+         "line 2: limits stand in front of all calls\n"},
+    };
+    for (size_t i = 0; i < sizeof scripts / sizeof *scripts; i++) {
+        write_file(scripts[i].name, scripts[i].text);
+        check_file_variable("OSPREYRACK_SCRIPT", scripts[i].name, scripts[i].part);
+    }
+}
+
 static void test_bad_files(void) {
     write_file("bad_line", "1 InitToken 31323334 -> 0\n\n# a comment\n1 OpenSession six\n");
     write_file("bad_reply", bad_reply);
-    write_file("bad_code", "1 InitToken 313233\n");
     write_file("long_reply", "1 GetMechanismList -> 0 252,251,250,262,261,260,272,271,270,282\n");
     write_file("no_journal", no_journal);
     mkdir(path_of("folder"), 0700);
@@ -529,7 +551,7 @@ static void test_bad_files(void) {
     check_file_variable("OSPREYRACK_SCRIPT", "bad_line", "line 4: this is no call (ck_cases says "
                         "why)\n");
     check_file_variable("OSPREYRACK_SCRIPT", "bad_reply", "line 2: the reply is 0 1, and not 0 2");
-    check_file_variable("OSPREYRACK_SCRIPT", "bad_code", "bad_code, line 1: the reply is a2\n");
+    check_bad_scripts();
     /* The first 40 bytes of each reply are shown. */
     check_file_variable("OSPREYRACK_SCRIPT", "long_reply", "line 1: the reply is "
                         "0 250,251,252,255,256,257,260,261,262,27, and not "
@@ -557,15 +579,30 @@ static int count_open_files(void) {
     return count;
 }
 
-/* The script is closed when it is read, also where one of its lines is bad. */
+/* The script has been read, and no file is open that wasn't before. */
+static void check_closed_script(void) {
+    CK_TOKEN_INFO info;
+    int before = count_open_files();
+    EXPECT(CKR_OK, p11->C_Initialize(NULL));
+    CHECK(count_open_files() == before);
+    EXPECT(CKR_OK, p11->C_GetTokenInfo(0, &info));
+    CHECK((info.flags & CKF_TOKEN_INITIALIZED) != 0);
+    EXPECT(CKR_OK, p11->C_Finalize(NULL));
+}
+
+/* The script is closed when it is read, also where its descriptor is that of standard input, or one
+ * of its lines is bad. */
 static void test_closed_script(void) {
     char text[2000];
     write_file("closed_script", script);
     setenv("OSPREYRACK_SCRIPT", path_of("closed_script"), 1);
+    check_closed_script();
+    int input = dup(STDIN_FILENO);
+    close(STDIN_FILENO);
+    check_closed_script();
+    dup2(input, STDIN_FILENO);
+    close(input);
     int before = count_open_files();
-    EXPECT(CKR_OK, p11->C_Initialize(NULL));
-    CHECK(count_open_files() == before);
-    EXPECT(CKR_OK, p11->C_Finalize(NULL));
     write_file("closed_script", bad_reply);
     keep_errors();
     CK_RV code = p11->C_Initialize(NULL);
@@ -622,6 +659,31 @@ static void test_signals(void) {
     check_signals(SIG_UNBLOCK);
 }
 
+static volatile sig_atomic_t caught;
+
+static void catch_signal(int number) {
+    (void)number;
+    caught++;
+}
+
+/* One that no write raises, and that the application has blocked, stays pending while lines are
+ * written. */
+static void check_other_signal(void) {
+    sigset_t signals, pending;
+    caught = 0;
+    signal(SIGUSR1, catch_signal);
+    sigemptyset(&signals);
+    sigaddset(&signals, SIGUSR1);
+    pthread_sigmask(SIG_BLOCK, &signals, NULL);
+    raise(SIGUSR1);
+    check_signals(SIG_UNBLOCK);
+    sigpending(&pending);
+    CHECK(sigismember(&pending, SIGUSR1) == 1 && caught == 0);
+    pthread_sigmask(SIG_UNBLOCK, &signals, NULL);
+    CHECK(caught == 1);
+    signal(SIGUSR1, SIG_DFL);
+}
+
 /* Until `read_errors` nobody reads standard error. */
 static void lose_errors(void) {
     int ends[2];
@@ -660,6 +722,7 @@ static bool leaves_signal(int how) {
 static void test_pending_signal(void) {
     CHECK(leaves_signal(SIG_BLOCK));
     CHECK(!leaves_signal(SIG_UNBLOCK));
+    check_other_signal();
 }
 
 /* ---- Memory */

@@ -53,23 +53,25 @@ static void digest_in_short_pieces(CK_BYTE *digest) {
 }
 
 /* C_Digest of the long message, whose operation was begun with SHA-512, and is by a change begun
- * anew with SHA-256. */
-static void check_changed_digest(void) {
+ * anew with SHA-256. The lock is taken this often behind the change. */
+static void check_changed_digest(int locks_behind) {
     CK_BYTE digest[64], expected[64];
     length = sizeof digest;
     EXPECT(CKR_OK, p11->C_Digest(current_session, large, LONG_MESSAGE, digest, &length));
     CHECK(locks_until_change == 0 && unlocks_until_change == 0 && length == 32);
+    CHECK(locks == locks_at_change + locks_behind);
     begin_sha(CKM_SHA256);
     digest_in_short_pieces(expected);
     CHECK(memcmp(digest, expected, 32) == 0);
 }
 
-/* The change comes before the second lock, and then before the third one. */
-static void check_digest_with(void (*made)(void)) {
+/* The change comes before the second lock, and then before the third one. For another token no
+ * bytes are taken in, so that the lock behind the change is the last one. */
+static void check_digest_with(void (*made)(void), bool is_other_token) {
     for (int lock = 2; lock <= 3; lock++) {
         begin_sha(CKM_SHA512);
         change_before_lock(lock, made);
-        check_changed_digest();
+        check_changed_digest(is_other_token ? 1 : 4 - lock);
     }
 }
 
@@ -144,20 +146,28 @@ static void change_message(void) {
     memset(large, 'x', LONG_MESSAGE);
 }
 
-/* The message is copied, and taken in without the lock. So what the application does to it later
- * doesn't count, and the lock is taken three times. */
-static void check_long_call(const struct long_call *call) {
+static void begin_long_call(const struct long_call *call) {
     fill_large();
     current_mechanism = mechanism_of(call->mechanism);
     length = call->begin == begin_verify ? 32 : sizeof result;
     check_code(call->begin(), CKR_OK, call->what);
+}
+
+static void finish_long_call(const struct long_call *call) {
+    bool is_digest = call->mechanism == CKM_SHA256;
+    check_code(call->finish(), CKR_OK, call->what);
+    check(is_hexadecimal(result, length, is_digest ? sha256_of_long : hmac_of_long), call->what);
+}
+
+/* The message is copied, and taken in without the lock. So what the application does to it later
+ * doesn't count, and the lock is taken three times. */
+static void check_long_call(const struct long_call *call) {
+    begin_long_call(call);
     change_at_call(change_message);
     int before = locks;
     check_code(call->make(), CKR_OK, call->what);
     check(locks == before + 3 && locks_until_change == 0, call->what);
-    check_code(call->finish(), CKR_OK, call->what);
-    bool is_digest = call->mechanism == CKM_SHA256;
-    check(is_hexadecimal(result, length, is_digest ? sha256_of_long : hmac_of_long), call->what);
+    finish_long_call(call);
 }
 
 static void test_changed_messages(void) {
@@ -165,6 +175,26 @@ static void test_changed_messages(void) {
     current_key = create_key(current_session, "Jefe");
     for (size_t i = 0; i < sizeof long_calls / sizeof *long_calls; i++)
         check_long_call(&long_calls[i]);
+    end_token();
+}
+
+/* A call whose lock fails isn't made, and leaves its operation as it is. */
+static void check_failing_lock_of(const struct long_call *call, int number) {
+    begin_long_call(call);
+    locks_until_failure = number;
+    check_code(call->make(), CKR_GENERAL_ERROR, call->what);
+    check(locks_until_failure == 0 && locks == unlocks && depth == 0, call->what);
+    check_code(call->make(), CKR_OK, call->what);
+    finish_long_call(call);
+}
+
+static void test_failing_lock_of_messages(void) {
+    begin_with_mutexes();
+    current_key = create_key(current_session, "Jefe");
+    for (size_t i = 0; i < sizeof long_calls / sizeof *long_calls; i++) {
+        for (int number = 1; number <= 3; number++)
+            check_failing_lock_of(&long_calls[i], number);
+    }
     end_token();
 }
 
@@ -234,7 +264,7 @@ static void begin_anew(void) {
 static void test_work_of_another_token(void) {
     fill_large();
     begin_with_mutexes();
-    check_digest_with(begin_anew);
+    check_digest_with(begin_anew, true);
     end_token();
 }
 
@@ -282,7 +312,7 @@ static void check_digest_between(const char *before, void (*made)(void)) {
         begin_with_mutexes();
         begin_sha(CKM_SHA512);
         change_before_lock(lock, made);
-        check_changed_digest();
+        check_changed_digest(1);
         end_token();
     }
 }
@@ -302,11 +332,11 @@ static void begin_operation_anew(void) {
 static void test_work_of_another_operation(void) {
     fill_large();
     begin_with_mutexes();
-    check_digest_with(begin_operation_anew);
+    check_digest_with(begin_operation_anew, false);
     for (int lock = 2; lock <= 3; lock++) {
         begin_sha(CKM_SHA512);
         change_at_lock(lock, begin_operation_anew);
-        check_changed_digest();
+        check_changed_digest(4 - lock);
     }
     end_token();
 }
@@ -764,6 +794,46 @@ static void test_update_and_another_mutex(void) {
     end_token();
 }
 
+static void *ask_behind_end(void *ignored) {
+    EXPECT(CKR_CRYPTOKI_NOT_INITIALIZED, ask_for_session());
+    return ignored;
+}
+
+static pthread_t asking_thread;
+static bool has_begun, has_ended;
+
+/* For so long only where the thread would wait without end. */
+static CK_RV destroy_and_wait(CK_VOID_PTR mutex) {
+    enum { MOST_SECONDS = 30 };
+    struct timespec limit;
+    (void)mutex;
+    clock_gettime(CLOCK_REALTIME, &limit);
+    limit.tv_sec += MOST_SECONDS;
+    if (pthread_create(&asking_thread, NULL, ask_behind_end, NULL) != 0)
+        exit(2);
+    has_begun = true;
+    has_ended = pthread_timedjoin_np(asking_thread, NULL, &limit) == 0;
+    return CKR_OK;
+}
+
+/* C_Finalize calls DestroyMutex without a lock, so that it may wait for a thread that calls. */
+static void test_destroying_that_waits(void) {
+    CK_C_INITIALIZE_ARGS arguments = {
+        .CreateMutex = create_next,
+        .DestroyMutex = destroy_and_wait,
+        .LockMutex = lock_any,
+        .UnlockMutex = unlock_any,
+    };
+    mutexes_made = 0;
+    has_begun = has_ended = false;
+    EXPECT(CKR_OK, p11->C_Initialize(&arguments));
+    EXPECT(CKR_OK, p11->C_Finalize(NULL));
+    check(has_ended, "the call of a thread that DestroyMutex waits for ends");
+    if (has_begun && !has_ended)
+        pthread_join(asking_thread, NULL);
+    EXPECT(CKR_CRYPTOKI_NOT_INITIALIZED, ask_for_session());
+}
+
 static CK_RV create_null(CK_VOID_PTR_PTR mutex) {
     *mutex = NULL;
     return CKR_OK;
@@ -869,6 +939,8 @@ static const struct test tests[] = {
     {"a long message is taken in as it was when the call was made", test_changed_messages},
     {"only for a long message that is taken in the lock is taken three times",
      test_locks_of_messages},
+    {"an application's lock that fails in a call with a long message",
+     test_failing_lock_of_messages},
     {"a long message is taken in while the lock is free", test_work_without_lock},
     {"the lock is taken once for a search in pieces", test_lock_of_search},
     {"the work on a long message doesn't count for another token", test_work_of_another_token},
@@ -892,6 +964,7 @@ static const struct test tests[] = {
     {"a call has waited for a mutex that isn't the library's any more", test_another_mutex},
     {"an update has waited for a mutex that isn't the library's any more",
      test_update_and_another_mutex},
+    {"a thread that DestroyMutex waits for calls the library", test_destroying_that_waits},
     {"an application's mutex that is NULL", test_mutex_that_is_null},
     {"threads that wait for the module's own mutex seldom sleep", test_seldom_asleep},
 };

@@ -186,6 +186,16 @@ static void check_impossible_room(CK_SESSION_HANDLE session, CK_OBJECT_HANDLE ob
     guarded_free(memory);
 }
 
+/* The room may be said to have the most bytes that memory could have. */
+static void check_largest_room(CK_SESSION_HANDLE session, CK_OBJECT_HANDLE object) {
+    uint8_t *memory = guarded_new(5);
+    CK_ATTRIBUTE label = {CKA_LABEL, memory, ((CK_ULONG)1 << 47) - 1};
+    EXPECT(CKR_OK, p11->C_GetAttributeValue(session, object, &label, 1));
+    CHECK(label.ulValueLen == 5 && memcmp(memory, "label", 5) == 0);
+    CHECK(guarded_is_intact(memory, 5, 5));
+    guarded_free(memory);
+}
+
 static void test_attribute_rooms(void) {
     CK_SESSION_HANDLE session = begin_token();
     CK_OBJECT_HANDLE object = create_data(session, "label");
@@ -196,6 +206,7 @@ static void test_attribute_rooms(void) {
     check_label_room(session, object, 4, CKR_BUFFER_TOO_SMALL, CK_UNAVAILABLE_INFORMATION, 0);
     check_label_room(session, object, 5, CKR_OK, 5, 5);
     check_label_room(session, object, 64, CKR_OK, 5, 5);
+    check_largest_room(session, object);
     check_impossible_room(session, object, CK_UNAVAILABLE_INFORMATION);
     check_impossible_room(session, object, (CK_ULONG)1 << 47);
     end_token();
