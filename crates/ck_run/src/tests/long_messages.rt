@@ -48,9 +48,8 @@ const OTHER_MECHANISMS: [Mechanisms; 4] = [
 /// The parameter of a general HMAC: the length of its signatures.
 const TAG_LENGTH: u64 = 8;
 
-/// How many calls a token has answered before the others, and answers between taking in a message
-/// and its call.
-const OTHER_CALLS: u32 = 20_000;
+/// How many calls a token has answered before the others.
+const EARLIER_CALLS: u32 = 20_000;
 
 /// The length of messages, the room for what they give, and how many of three single-part messages
 /// and of three pieces are taken in.
@@ -147,14 +146,6 @@ fn new_token(alloc: Global) -> Token {
     Token::new(alloc, Limits::largest())
 }
 
-/// Makes many calls that change no operation.
-fn make_other_calls(alloc: Global, token: &mut Token) -> Result<(), Fail> {
-    for _ in 0..OTHER_CALLS {
-        token.try_call(alloc, 1, Call::GetTokenInfo)?;
-    }
-    Ok(())
-}
-
 /// Opens session 1 of a new token, creates a key that anybody may use, and makes many calls. Gives
 /// the key's handle.
 fn create_key(alloc: Global, token: &mut Token) -> Result<u64, Fail> {
@@ -163,7 +154,9 @@ fn create_key(alloc: Global, token: &mut Token) -> Result<u64, Fail> {
     token.try_call(alloc, 1, Call::OpenSession { flags: READ_WRITE })?;
     let template = Template::secret_key(alloc, b"Jefe")?.flag(Attribute::Private, false)?;
     let created = token.try_call(alloc, 1, Call::CreateObject { session, template })?;
-    make_other_calls(alloc, token)?;
+    for _ in 0..EARLIER_CALLS {
+        token.try_call(alloc, 1, Call::GetTokenInfo)?;
+    }
     Ok(created.handle().ok_or("no key")?)
 }
 
@@ -266,7 +259,7 @@ impl Times {
     }
 }
 
-/// Takes in the message of a call, makes many others, and then the call.
+/// Takes in the message of a call, and makes the call.
 fn times_of<R: CpuClock>(
     rt: &R,
     alloc: Global,
@@ -277,13 +270,11 @@ fn times_of<R: CpuClock>(
     let mut work = JournaledToken::work(token, &call).ok_or("no work")?;
     work.finish(&call);
     let taken_in = rt.process_cpu_time()?;
-    make_other_calls(alloc, token)?;
-    let called = rt.process_cpu_time()?;
     JournaledToken::call_after(token, alloc, 1, call, Some(&work))?;
     let made = rt.process_cpu_time()?;
     Ok(Times {
         before: taken_in.saturating_sub(start),
-        in_call: made.saturating_sub(called),
+        in_call: made.saturating_sub(taken_in),
     })
 }
 
