@@ -350,7 +350,7 @@ size_t times_noted = MOST_TIMES;
 
 static void note_time(void) {
     struct timespec now;
-    if (times_noted >= MOST_TIMES)
+    if (inside > 0 || times_noted >= MOST_TIMES)
         return;
     clock_gettime(CLOCK_THREAD_CPUTIME_ID, &now);
     noted_times[times_noted++] = now.tv_sec * 1000000000LL + now.tv_nsec;

@@ -53,8 +53,8 @@ extern int locks_until_failure;
 extern void (*change_at_failure)(void);
 
 /* How long this thread had worked at each lock and unlock, in nanoseconds, from the time on when
- * `times_noted` was set to 0. Only the time of its own work counts, however many threads want the
- * processor. */
+ * `times_noted` was set to 0, but for those of a change. Only the time of its own work counts,
+ * however many threads want the processor. */
 enum { MOST_TIMES = 6 };
 
 extern long long noted_times[MOST_TIMES];

@@ -390,15 +390,19 @@ static CK_RV verify_update_piece(void) {
     return p11->C_VerifyUpdate(current_session, large, PIECE);
 }
 
-static void note_times(CK_RV (*make)(void), CK_RV expected, const char *what) {
+/* Of a piece, before whose last lock these calls are made, if there are any. */
+static void note_times(void (*between)(void), CK_RV (*make)(void), CK_RV expected,
+                       const char *what) {
     CK_MECHANISM hmac = mechanism_of(CKM_SHA256_HMAC);
     begin_sha(CKM_SHA256);
     EXPECT(CKR_OK, p11->C_SignInit(current_session, &hmac, current_key));
     EXPECT(CKR_OK, p11->C_VerifyInit(current_session, &hmac, current_key));
     length = sizeof result;
     times_noted = 0;
+    if (between != NULL)
+        change_before_lock(LOCKS_OF_PIECE, between);
     check_code(make(), expected, what);
-    check(times_noted == 2 * LOCKS_OF_PIECE, what);
+    check(times_noted == 2 * LOCKS_OF_PIECE && unlocks_until_change == 0, what);
     CK_FLAGS all = CKF_DIGEST | CKF_SIGN | CKF_VERIFY;
     EXPECT(CKR_OK, p11->C_SessionCancel(current_session, all));
 }
@@ -408,25 +412,30 @@ static CK_RV ask_for_session(void) {
     return p11->C_GetSessionInfo(current_session, &info);
 }
 
-static void ask_often_for_session(void) {
-    enum { MANY_CALLS = 20000 };
+static void ask_often_for_session(int times) {
     int refused = 0;
-    for (int i = 0; i < MANY_CALLS; i++)
+    for (int i = 0; i < times; i++)
         refused += ask_for_session() != CKR_OK;
     CHECK(refused == 0);
+}
+
+static void ask_in_between(void) {
+    enum { CALLS_BETWEEN = 2000 };
+    ask_often_for_session(CALLS_BETWEEN);
 }
 
 static long long least(long long one, long long other) {
     return one < other ? one : other;
 }
 
-/* The piece is copied and taken in between the three locks, and not under the last. The least of
- * a few times counts, since another system may have the processor in the middle of one. */
-static void check_work_without_lock(CK_RV (*make)(void), CK_RV expected, const char *what) {
+/* The least of a few times counts, since another system may have the processor in the middle of
+ * one. */
+static void check_times(void (*between)(void), CK_RV (*make)(void), CK_RV expected,
+                        const char *what) {
     enum { TRIES = 5 };
     long long without_lock = LLONG_MAX, under_lock = LLONG_MAX;
     for (int i = 0; i < TRIES; i++) {
-        note_times(make, expected, what);
+        note_times(between, make, expected, what);
         without_lock = least(without_lock, noted_times[2] - noted_times[1] + noted_times[4]
                              - noted_times[3]);
         under_lock = least(under_lock, noted_times[5] - noted_times[4]);
@@ -434,11 +443,18 @@ static void check_work_without_lock(CK_RV (*make)(void), CK_RV expected, const c
     check(without_lock > 5 * under_lock, what);
 }
 
+/* The piece is copied and taken in between the three locks, and not under the last, however many
+ * calls others make meanwhile. */
+static void check_work_without_lock(CK_RV (*make)(void), CK_RV expected, const char *what) {
+    check_times(NULL, make, expected, what);
+    check_times(ask_in_between, make, expected, what);
+}
+
 /* However long the journal in memory is: it isn't cut while a session is open. */
 static void test_work_without_lock(void) {
     fill_large();
     begin_with_mutexes();
-    ask_often_for_session();
+    ask_often_for_session(20000);
     current_key = create_key(current_session, "Jefe");
     check_work_without_lock(digest_piece, CKR_OK, "C_Digest");
     check_work_without_lock(digest_update_piece, CKR_OK, "C_DigestUpdate");
