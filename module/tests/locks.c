@@ -419,9 +419,12 @@ static void ask_often_for_session(int times) {
     CHECK(refused == 0);
 }
 
+/* Behind the last of them the journal in memory would be cut, if no session were open. */
 static void ask_in_between(void) {
     enum { CALLS_BETWEEN = 2000 };
+    CK_TOKEN_INFO info;
     ask_often_for_session(CALLS_BETWEEN);
+    EXPECT(CKR_OK, p11->C_GetTokenInfo(0, &info));
 }
 
 static long long least(long long one, long long other) {
