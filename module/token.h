@@ -31,7 +31,8 @@ enum outcome {
     ANSWERED = 0,  /* it was answered, and stands in the token's journal */
     NO_CALL = 1,   /* the line is empty, a comment or a bad one, or no call was given; nothing has
                       changed */
-    NO_MEMORY = 2, /* there was no memory for it; nothing has changed */
+    NO_MEMORY = 2, /* there was no memory for it; nothing has changed, except that the journal may
+                      have more room */
 };
 
 /* ---- A token's life */
