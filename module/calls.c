@@ -1,7 +1,7 @@
 /*
- * Calls of the token: by lines where a journal file is kept, except cancels, and else by their
- * arguments where the token has a function for that. A call that has work is made by that. What is
- * replied is read by the caller of `make_call`.
+ * Calls of the token. Where a journal file is kept, each call except a cancel is made by a line.
+ * Without one a call is made by its arguments, where the token has a function for that, and else by
+ * a line. A call that has work is made by its work. Who calls `make_call` reads the reply.
  */
 #include "module.h"
 
