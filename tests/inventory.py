@@ -60,7 +60,7 @@ MODULE = re.compile(r"^(?:pub(?:\([a-z]+\))? )?mod (\w+);", re.MULTILINE)
 # of tests.
 HINDRANCE = re.compile(r"#!?\[(?!cfg\(test\)\])\s*(?:cfg\w*|ignore|should_panic)\b[^\n]*")
 C_CONDITION = re.compile(r"^\s*#\s*(?:if|ifdef|ifndef)\b.*", re.MULTILINE)
-# A line of a table in C, by the text at its front.
+# A line of a table in C, by the text at its beginning.
 C_ENTRY = re.compile(r'^    \{"((?:[^"\\]|\\.)*)",', re.MULTILINE)
 C_TEST = re.compile(r'"(?:[^"\\]|\\.)*",\s*(test_\w+)\}')
 PART = re.compile(r"^(part|begin) ")
@@ -129,12 +129,12 @@ def folders(pattern):
 
 
 def digest_of(content):
-    """The front of a digest."""
+    """The beginning of a digest."""
     return hashlib.sha256(content).hexdigest()[:DIGITS]
 
 
 def with_digests(paths):
-    """Files, each with the front of the digest of its text."""
+    """Files, each with the beginning of the digest of its text."""
     listed = []
     for path in paths:
         with open(os.path.join(ROOT, path), "rb") as file:
@@ -185,7 +185,7 @@ def shown_types():
 
 
 def braced(text):
-    """The front of a text up to the end of its first braces."""
+    """The beginning of a text up to the end of its first braces."""
     depth = 0
     for at, letter in enumerate(text):
         depth += (letter == "{") - (letter == "}")
@@ -195,8 +195,8 @@ def braced(text):
 
 
 def clauses_in_files():
-    """How many clauses, and ghost items of types, each file has, and the front of a digest of them
-    and of the names of definitions that they cite."""
+    """How many clauses, and ghost items of types, each file has, and the beginning of a digest of
+    them and of the names of definitions that they cite."""
     listed = []
     for path in sources():
         code = code_of(path)
@@ -239,7 +239,7 @@ def c_files():
 
 def rows_of_pages():
     """The rows of tables on pages that say what is promised, each by its first cell and with the
-    front of the digest of its text."""
+    beginning of the digest of its text."""
     rows = [(page, line) for page in PAGES_OF_PROMISES for line in text_of(page).split("\n")
             if line.startswith("| ")]
     return [f"{page} {line.split(' | ')[0][2:]} {digest_of(line.encode())}" for page, line in rows]

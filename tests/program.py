@@ -333,7 +333,7 @@ LINES_WITH_FAULTS = [
 ]
 
 # A name that is as near to two calls, of which the first is named; one with two letters too many,
-# or three, after the longest name and the front of the standard; one that is too long; and one in
+# or three, after the longest name and the standard's `C_`; one that is too long; and one in
 # which letters that stand side by side are exchanged twice, which are three changes.
 NAMES = [
     (b"etAttributeValue", NO_CALL + b", the nearest is GetAttributeValue"),
@@ -411,7 +411,7 @@ class Checks:
 
 
 def front_of(text):
-    """The front of what was written, where something is known of it, as it is shown."""
+    """The beginning of what was written, where something is known of it, as it is shown."""
     return repr(text and text[:300])
 
 

@@ -477,7 +477,7 @@ def many_lines(tests):
 
 
 def shown(text):
-    """The front of a text, and two dots where more follows."""
+    """The beginning of a text, and two dots where more follows."""
     return (text[:MOST_SHOWN] + ".." * (len(text) > MOST_SHOWN)).encode()
 
 

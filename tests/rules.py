@@ -273,7 +273,7 @@ STANDARD = {"CKU_SO": 0, "CKU_USER": 1, "CKF_SERIAL_SESSION": 4, "CKF_RW_SESSION
             "CKF_DIGEST": 0x400, "CKF_SIGN": 0x800, "CKF_VERIFY": 0x2000, "CKO_DATA": 0,
             "CKO_SECRET_KEY": 4, "CKK_GENERIC_SECRET": 0x10, "both": 6}
 
-# A function as the page of programs shows it, and the front of one's contract.
+# A function as the page of programs shows it, and how a function's contract begins.
 SHOWN = re.compile(r"(?:(?P<owner>\w+)::|\.)?(?P<name>\w+)(?:\((?P<given>.*)\)(?P<asks>\?)?)?")
 HEAD = re.compile(r".*?fn \w+(?:<[^(]*>)?\((.*?)\)(?: -> (.*))?")
 
