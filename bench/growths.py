@@ -7,7 +7,7 @@ growths, or of the files that are named, is played once for each growth of memor
 What finds no memory, a call, a cut or an audit, the program of cases makes again after a look at
 the journal: so the case passes, or the program itself is out of memory. Where it finds none a
 second time either, it says so in other words, and that is a fault. The calls of a case are also
-played as a script: all replies are written, or whole lines at their front, and then the program
+played as a script: all replies are written, or whole lines of their beginning, and the program
 says that it is out of memory. The same script is played in threads, with `--callers 8`: it is
 summed up, or nothing is written, since there was no memory or no thread. Where anything else comes,
 it is printed, and the status is 1. Bad lines are left out, since they make no call. Some are played
@@ -39,9 +39,9 @@ Each run without a refused growth must have growths, and in all some must be ref
 made again: else the library that refuses them isn't loaded.
 
 With the argument `short` every fourth growth of a case and of a script is refused, and every second
-one of a race, so that it takes less time; but each one of long_journal.cases and of the cases of
-searches, keys, digests and signatures. Which one is the first follows from the name of the case, so
-that it isn't the same growths of all cases that are passed over.
+one of a race, so that it takes less time; but each one of long_journal.cases, searches.cases,
+key_sequences.cases, digests.cases and signatures.cases. Which one is the first follows from the
+name of the case, so that it isn't the same growths of all cases that are passed over.
 
 The programs are crates/ck_cases/out/ck_cases, crates/ck_run/out/ck_run and
 crates/ck_races/out/ck_races, built by `rt run` in their folders. This needs Linux with the GNU C
@@ -112,7 +112,7 @@ ALIKE = [
     )),
 ]
 
-# Bad lines that take memory for their arguments, each behind the front of a line that is bad for
+# Bad lines that take memory for their arguments, each behind the beginning of a line that is bad for
 # the same reason and takes none, and what fills that up to the same length.
 BAD_LINES = [
     ("1 Logout ", "x", "1 Digest 1 61626364 xx"),
@@ -237,7 +237,7 @@ def is_case_right(ended, name, plain):
 
 
 def is_script_right(ended, plain):
-    """All replies are written, or whole lines at their front."""
+    """All replies are written, or whole lines of their beginning."""
     if ended.status == 0:
         return (ended.output, ended.errors) == (plain.output, b"")
     is_front = plain.output.startswith(ended.output) and ended.output[-1:] in (b"", b"\n")
