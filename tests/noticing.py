@@ -69,6 +69,7 @@ WRONG_FOR_ONE = [
     (program.audits, WITH_INPUT % (
         '[ "$(wc -l < "$input")" -lt 10000 ] || '
         '{ printf "entries %s\\naudit ok\\n" "$(wc -l < "$input")"; exit; }')),
+    (program.audits, WITH_INPUT % '[ "$(wc -c < "$input")" -lt 40000000 ]'),
     *((program.ended, WITH_INPUT % f'! grep -q "^{call}" "$input"')
       for call in ("1 DestroyObject 1 201", "1 FindObjectsFinal 1")),
 ]

@@ -40,6 +40,11 @@ LARGE_OBJECTS = b"".join([
     b"1 CopyObject 1 1 -\n" * 63])
 ROOM = 110_000_000
 
+# Comments for which a program that reads a script whole takes 67 million bytes, and a room for these
+# or for the objects, and not for both.
+LONG_COMMENTS = (b"#" * LONGEST_LINE + b"\n") * 10
+ROOM_OF_READ = 125_000_000
+
 # How many calls make their journal long, and a room for these, too.
 LONG_JOURNAL = 200_000
 ROOM_OF_LONG = 190_000_000
@@ -330,6 +335,12 @@ LINES_WITH_FAULTS = [
     (b"1 GetAttributeValue 1 1 0x3:x", NO_CODE_NUMBER),
     (b"1 CreateObject 1 0x3=00,3", NO_CODE_NUMBER),
     (b"1 CreateObject 1 3,0x3=00", NO_TEMPLATE),
+    # a number with two faults, and too many parts of which the first is bad
+    (b"1 Logout 018446744073709551616", LEADING_ZERO),
+    (b"1 OpenSession 010000000000000000", LEADING_ZERO),
+    (b"1 DigestInit 1 0x250:00:00", NO_MECHANISM),
+    (b"1 CreateObject 1 0x3=00=00", NO_TEMPLATE),
+    (b"1 GetAttributeValue 1 1 0x3:8:8", NO_QUERIES),
 ]
 
 # A name that is as near to two calls, of which the first is named; one with two letters too many,
@@ -701,6 +712,9 @@ def audits(tests):
         tests.check(words, LARGE_OBJECTS + calls, b"", *NO_MEMORY, **in_room(room))
     tests.check(words, LARGE_OBJECTS + b"1 CopyObject 1 1 -\n" * 100, b"", *NO_MEMORY,
                 **in_room(ROOM))
+    # what was read of a long script gives its memory back before the calls are made
+    tests.check(words, LONG_COMMENTS + LARGE_OBJECTS + b"1 CloseAllSessions\n",
+                b"entries 67\naudit ok\n", *PLAYED, **in_room(ROOM_OF_READ))
     tests.end("the journal of callers is audited, and an audit or a call finds no memory for many "
               "objects")
 

@@ -101,6 +101,11 @@ def changes(count, first=0):
             for number in range(count)]
 
 
+def applications(count):
+    """Calls that give these objects the applications that they have."""
+    return [f"1 SetAttributeValue 1 {number + 1} 10={number:08x}" for number in range(count)]
+
+
 def copies(count):
     """Calls that copy the first object, each time with a label of its own."""
     return [f"1 CopyObject 1 1 3={number:08x}" for number in range(count)]
@@ -188,6 +193,14 @@ def logins(count, login="1 Login 1 0 31323334"):
     return [login, "1 Logout 1"] * count
 
 
+def initializations(count):
+    """Calls that create objects, and then initialize the token again and again, each time with one
+    object."""
+    return [*creations(count), "1 CloseSession 1", *(line for number in range(count) for line in (
+        "1 InitToken 31323334", "1 OpenSession 6",
+        f"1 CreateObject {number + 2} 0=0000000000000000", f"1 CloseSession {number + 2}"))]
+
+
 # Calls of the kinds that the other scripts lack, which leave the token as it was: on a digest, a
 # signature, a verification, a key's state, PINs and a search, and some that are refused.
 ROUND = """\
@@ -264,6 +277,11 @@ def long_messages(count):
             *["1 DigestUpdate 1 " + "61" * 4_096] * (count // 40)]
 
 
+def comments(count):
+    """Long comments."""
+    return ["#" + "x" * 999] * count
+
+
 def long_template(count):
     """A creation by this many equal labels, and as many equal applications."""
     return [f"1 CreateObject 1 0=0000000000000000{',3=61' * count}{',10=61' * count}"]
@@ -272,6 +290,14 @@ def long_template(count):
 def long_templates(count):
     """Forty creations by as many items together."""
     return long_template(count // 40) * 40
+
+
+def long_searches(count):
+    """A few searches of one object, which has all of this many equal labels, and as many equal
+    applications."""
+    template = f"0=0000000000000000{',3=61' * count}{',10=61' * count}"
+    return ["1 CreateObject 1 0=0000000000000000,3=61,10=61",
+            *[f"1 FindObjectsInit 1 {template}", "1 FindObjects 1 9", "1 FindObjectsFinal 1"] * 5]
 
 
 def long_queries(count):
@@ -287,9 +313,9 @@ def is_faster_by_label(before, with_labels, with_others):
 
 def label_searches(tests):
     """A search by a label passes over most objects without reading them, where labels are long,
-    were given anew or were changed, where other objects have been destroyed before, where the
-    template has other attributes, too, among keys, also private ones of a user who is logged in,
-    and among many.
+    were given anew or were changed, where other attributes were given anew, where other objects
+    have been destroyed before, where the template has other attributes, too, among keys, also
+    private ones of a user who is logged in, and among many.
     Each row has calls, the searches behind them by a label, and as many others."""
     made, most = creations(FEW), creations(MOST)
     by_label, by_other = searches(SEARCHES, "3="), searches(SEARCHES, "10=")
@@ -301,6 +327,7 @@ def label_searches(tests):
             (made, searches(SEARCHES, "3=", ",0=0000000000000000,1=00"), by_other),
             (made + changes(FEW), by_label, by_other),
             (made + changes(FEW, FEW), searches(SEARCHES, "3=", first=FEW), by_other),
+            (made + applications(FEW), by_label, by_other),
             (creations(FEW, "00") + destructions(FEW) + made, by_label, by_other),
             (keys(FEW), by_label, searches(SEARCHES, "102=")),
             ([*LOGIN, *keys(FEW, "1=01,2=01")], by_label, searches(SEARCHES, "102=")),
@@ -344,18 +371,20 @@ EVEN = [
      lambda count: private_objects(count) + logins(count, "1 Login 1 1 75736572")),
     ("logins behind private objects that have ended",
      lambda count: private_objects(count, "00") + logins(count, "1 Login 1 1 75736572")),
+    ("initializations behind objects that have ended", initializations),
     ("changes of labels", lambda count: creations(count) + changes(count)),
     ("copies of one object", lambda count: creations(1) + copies(count)),
     ("generated keys", generations),
     ("items of two attributes each in a template", long_template),
     ("items of two attributes each in forty templates", long_templates),
+    ("items of two attributes each in templates of searches", long_searches),
     ("queries of one call, and their answers", long_queries),
     ("calls of the other kinds", other_calls),
     ("searches that are refused beside objects", refused_searches),
 ]
 
 # Those of them that are few long lines.
-LONG_LINES = long_template, long_templates, long_queries
+LONG_LINES = long_template, long_templates, long_searches, long_queries
 
 
 def grows_evenly(*times):
@@ -382,6 +411,14 @@ def long_messages_of_callers(tests):
                           ["--callers", "1"])
     tests.expect(grows_evenly(*times), f"{times[0]:.3f} and {times[1]:.3f} s")
     tests.end("times of long messages behind calls")
+
+
+def long_scripts_of_callers(tests):
+    """A script that is read whole isn't copied for each read."""
+    times = least_seconds(tests, [comments(count) for count in (FEW, MANY)], grows_evenly,
+                          ["--callers", "1"])
+    tests.expect(grows_evenly(*times), f"{times[0]:.3f} and {times[1]:.3f} s")
+    tests.end("times of long scripts of callers")
 
 
 def takes_no_copies(short, long):
@@ -435,6 +472,7 @@ def main(path):
     label_searches(tests)
     even_times(tests)
     long_messages_of_callers(tests)
+    long_scripts_of_callers(tests)
     long_values(tests)
     early_digests(tests)
     single_digests(tests)
