@@ -40,8 +40,8 @@ LARGE_OBJECTS = b"".join([
     b"1 CopyObject 1 1 -\n" * 63])
 ROOM = 110_000_000
 
-# Comments for which a program that reads a script whole takes 67 million bytes, and a room for these
-# or for the objects, and not for both.
+# Comments for which a program that reads a script whole takes 67 million bytes, and a room for
+# these or for the objects, and not for both.
 LONG_COMMENTS = (b"#" * LONGEST_LINE + b"\n") * 10
 ROOM_OF_READ = 125_000_000
 

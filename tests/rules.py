@@ -227,6 +227,7 @@ REPLIES = {
     "answers to queries": (
         "a space and the answers joined by commas, or `-` where there are none",
         {"1 GetAttributeValue 1 1 3:8,11:?,3:?,11:8": "0 =6162,:0,:2,=-",
+         f"1 GetAttributeValue 1 1 3:{2 ** 64 - 1},11:{2 ** 64 - 1}": "0 =6162,=-",
          "1 GetAttributeValue 1 1 -": "0 -", "1 GetAttributeValue 1 1 100:8": "12 !"}),
     "handles": (
         "a space and the handles in decimal joined by commas, or `-` where there are none",
