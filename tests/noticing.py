@@ -65,6 +65,8 @@ WRONG_FOR_ONE = [
     (program.sessions_with_objects, WITH_INPUT % '! grep -q "^1 CreateObject 64 " "$input"'),
     (program.memory, f'ulimit -v {program.ROOM_OF_CREATED // 1_536}; {RIGHT}'),
     (program.memory, WITH_INPUT % '! grep -q "^1 FindObjectsInit 64 " "$input"'),
+    *((program.memory_of_entries, WITH_INPUT % f'! grep -q "^1 {call}" "$input"')
+      for call in ("GetTokenInfo", "FindObjectsFinal 1")),
     (program.memory_of_callers, f'ulimit -v {program.ROOM_OF_EIGHT // 2_048}; {RIGHT}'),
     (program.audits, WITH_INPUT % (
         '[ "$(wc -l < "$input")" -lt 10000 ] || '
@@ -107,7 +109,8 @@ SILENT = {
                                    races.wrong_in_parts, races.bad_lines, races.bad_files],
     "nothing on standard error": [program.dialogue, program.long_lists, program.long_replies,
                                   program.long_history, program.packets, program.side_by_side,
-                                  program.many_changes, program.memory, program.ended,
+                                  program.many_changes, program.memory,
+                                  program.memory_of_entries, program.ended,
                                   program.single_writes, program.memory_of_callers,
                                   program.sessions_with_objects, program.seldom_asleep,
                                   recorded_runs.reports,
@@ -1062,6 +1065,7 @@ def programs_not_run(checks):
 def main():
     checks = program.Checks("noticing")
     program.MANY = program.MANY_SESSIONS = FEW_CALLS
+    program.MANY_ENTRIES = program.HANDLE_SEARCHES = FEW_CALLS
     wrong_programs(checks)
     wrong_programs_for_one(checks)
     idle_programs(checks)

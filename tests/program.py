@@ -40,10 +40,9 @@ LARGE_OBJECTS = b"".join([
     b"1 CopyObject 1 1 -\n" * 63])
 ROOM = 110_000_000
 
-# Comments for which a program that reads a script whole takes 67 million bytes, and a room for
-# these or for the objects, and not for both.
+# Comments for which a program that reads a script whole takes 67 million bytes. The room has none
+# for these and the objects at once.
 LONG_COMMENTS = (b"#" * LONGEST_LINE + b"\n") * 10
-ROOM_OF_READ = 125_000_000
 
 # How many calls make their journal long, and a room for these, too.
 LONG_JOURNAL = 200_000
@@ -179,6 +178,17 @@ MANY_CREATED = 130_000
 BYTES_OF_OBJECT = 220
 BYTES_OF_CREATION = 320
 ROOM_OF_CREATED = MANY_CREATED * (BYTES_OF_OBJECT + BYTES_OF_CREATION) * 6 // 5
+
+# How many entries a journal has, and how many bytes one takes by docs/module.md, where it has no
+# list; how many handles searches find, and how many searches there are, of three entries each; how
+# many bytes the handles take with what the allocator adds; and the rooms for them and the program.
+MANY_ENTRIES = 1_000_000
+BYTES_OF_ENTRY = 152
+FOUND_HANDLES, HANDLE_SEARCHES = 33, 50_000
+BYTES_OF_HANDLES = FOUND_HANDLES * 8 + 8
+ROOM_OF_PROGRAM = 8_000_000
+ROOM_OF_ENTRIES = MANY_ENTRIES * BYTES_OF_ENTRY + ROOM_OF_PROGRAM
+ROOM_OF_HANDLES = HANDLE_SEARCHES * (3 * BYTES_OF_ENTRY + BYTES_OF_HANDLES) + ROOM_OF_PROGRAM
 
 # How many sessions have a search each in this room, or an object each, and the room for the latter.
 SESSIONS = 64
@@ -714,7 +724,7 @@ def audits(tests):
                 **in_room(ROOM))
     # what was read of a long script gives its memory back before the calls are made
     tests.check(words, LONG_COMMENTS + LARGE_OBJECTS + b"1 CloseAllSessions\n",
-                b"entries 67\naudit ok\n", *PLAYED, **in_room(ROOM_OF_READ))
+                b"entries 67\naudit ok\n", *PLAYED, **in_room(ROOM))
     tests.end("the journal of callers is audited, and an audit or a call finds no memory for many "
               "objects")
 
@@ -751,6 +761,23 @@ def memory(tests):
     tests.check([], script, "".join(reply + "\n" for reply in replies).encode(), *PLAYED,
                 **in_room(ROOM_OF_CREATED))
     tests.end("the memory of objects, of entries and of searches")
+
+
+def memory_of_entries(tests):
+    """An entry takes no more memory than the page says, and handles that were found no more than
+    they need."""
+    tests.check([], ONE_OF_MANY * MANY_ENTRIES, b"0 4 64 0 0\n" * MANY_ENTRIES, *PLAYED,
+                **in_room(ROOM_OF_ENTRIES))
+    numbers = range(1, FOUND_HANDLES + 1)
+    handles = b",".join(b"%d" % number for number in numbers)
+    script = (b"1 InitToken 31323334\n1 OpenSession 6\n"
+              + b"1 CreateObject 1 0=0000000000000000\n" * FOUND_HANDLES
+              + b"1 FindObjectsInit 1 -\n1 FindObjects 1 99\n1 FindObjectsFinal 1\n"
+              * HANDLE_SEARCHES)
+    replies = (b"0\n0 1\n" + b"".join(b"0 %d\n" % number for number in numbers)
+               + b"0\n0 %b\n0\n" % handles * HANDLE_SEARCHES)
+    tests.check([], script, replies, *PLAYED, **in_room(ROOM_OF_HANDLES))
+    tests.end("the memory of entries and of found handles")
 
 
 def sessions_with_objects(tests):
@@ -936,6 +963,7 @@ def main(program):
     audits(tests)
     ended(tests)
     memory(tests)
+    memory_of_entries(tests)
     sessions_with_objects(tests)
     many_changes(tests)
     memory_of_callers(tests)

@@ -410,6 +410,8 @@ NUMBERS_ON_PAGES = [
      "BYTES_OF_OBJECT"),
     ("architecture.md", r"and the entry of its creation some (\d+)", "../tests/program.py",
      "BYTES_OF_CREATION"),
+    ("module.md", r"each call adds an entry of (\w+) bytes", "../tests/program.py",
+     "BYTES_OF_ENTRY"),
     ("proofs.md", r"templates of (\S+) items in each call", "ck_run/src/tests/long_lines.rt",
      "MANY"),
     ("proofs.md", r"(\S+) queries in one call", "ck_run/src/tests/long_lines.rt", "MANY"),
