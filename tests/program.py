@@ -172,12 +172,18 @@ EACH_CALL = [
     ("InitToken 31323334", "0"),
 ]
 
+# A room for the program by itself, of which it takes less than half.
+ROOM_OF_PROGRAM = 8_000_000
+
 # How many objects are created, each with a label of eight bytes; how many bytes one takes by
-# docs/architecture.md, and the entry of its creation; and the room for them, a fifth more.
+# docs/architecture.md, and the entry of its creation; and the room for them and the program.
 MANY_CREATED = 130_000
 BYTES_OF_OBJECT = 220
 BYTES_OF_CREATION = 320
-ROOM_OF_CREATED = MANY_CREATED * (BYTES_OF_OBJECT + BYTES_OF_CREATION) * 6 // 5
+ROOM_OF_CREATED = MANY_CREATED * (BYTES_OF_OBJECT + BYTES_OF_CREATION) + ROOM_OF_PROGRAM
+
+# How many sessions have a search each in this room, or an object each in that of the program.
+SESSIONS = 64
 
 # How many entries a journal has, and how many bytes one takes by docs/module.md, where it has no
 # list; how many handles searches find, and how many searches there are, of three entries each; how
@@ -186,13 +192,8 @@ MANY_ENTRIES = 1_000_000
 BYTES_OF_ENTRY = 152
 FOUND_HANDLES, HANDLE_SEARCHES = 33, 50_000
 BYTES_OF_HANDLES = FOUND_HANDLES * 8 + 8
-ROOM_OF_PROGRAM = 8_000_000
 ROOM_OF_ENTRIES = MANY_ENTRIES * BYTES_OF_ENTRY + ROOM_OF_PROGRAM
 ROOM_OF_HANDLES = HANDLE_SEARCHES * (3 * BYTES_OF_ENTRY + BYTES_OF_HANDLES) + ROOM_OF_PROGRAM
-
-# How many sessions have a search each in this room, or an object each, and the room for the latter.
-SESSIONS = 64
-ROOM_OF_SESSIONS = 30_000_000
 
 # The bytes of a packet that one read of the program takes whole. Tests read packets twice as long.
 PACKET = 65_536
@@ -787,7 +788,7 @@ def sessions_with_objects(tests):
              *(f"1 CreateObject {number} 0=0000000000000000" for number in numbers)]
     script = "".join(line + "\n" for line in ["1 InitToken 31323334", *calls]).encode()
     replies = "0\n" + "".join(f"0 {number}\n" for number in [*numbers, *numbers])
-    tests.check([], script, replies.encode(), *PLAYED, **in_room(ROOM_OF_SESSIONS))
+    tests.check([], script, replies.encode(), *PLAYED, **in_room(ROOM_OF_PROGRAM))
     tests.end("the memory of sessions with objects")
 
 
