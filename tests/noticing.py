@@ -94,7 +94,8 @@ FEW_OBJECTS = {"FEWER": 3, "FEW": 10, "MANY": 40, "MOST": 50, "SEARCHES": 40,
 # Times of ever more, and whether they grow as they should; of calls, of these with searches by a
 # label, and with others, and whether those by a label are fast; of a short value and a long one,
 # and whether no copy is made; of a digest's length and of its refusal, and whether the latter comes
-# early; and of its length and of itself, and whether it takes not much longer.
+# early; of its length and of itself, and whether it takes not much longer; and of digests and short
+# calls, and whether these take little.
 GROWING_TIMES = [((1, 2.1), True), ((1, 7.9, 62), True), ((1, 2), False), ((1, 8), False),
                  ((4, 4), False), ((1, 4, 8), False), ((2, 4, 16), False)]
 TIMES_OF_SEARCHES = [((1, 1.9, 4), True), ((1, 1, 1.1), True), ((1, 2, 4), False),
@@ -102,6 +103,8 @@ TIMES_OF_SEARCHES = [((1, 1.9, 4), True), ((1, 1, 1.1), True), ((1, 2, 4), False
 TIMES_OF_LENGTHS = [((1, 2.9), True), ((4, 3), True), ((1, 3), False)]
 TIMES_OF_DIGESTS = [((3, 4), True), ((3, 2), True), ((3, 4.1), False)]
 TIMES_OF_HASHING = [((2, 5.9), True), ((2, 1), True), ((2, 6), False)]
+TIMES_OF_SHORT_CALLS = [((2, 5.9, 1), True), ((2, 1, 5.9), True), ((2, 6, 1), False),
+                        ((2, 1, 6), False)]
 
 # Tests in which a right program writes nothing there, so that they pass on one that never does.
 SILENT = {
@@ -746,7 +749,8 @@ def slow_programs(checks):
                                   (speed.is_faster_by_label, TIMES_OF_SEARCHES),
                                   (speed.takes_no_copies, TIMES_OF_LENGTHS),
                                   (speed.is_told_early, TIMES_OF_DIGESTS),
-                                  (speed.is_fast_enough, TIMES_OF_HASHING)):
+                                  (speed.is_fast_enough, TIMES_OF_HASHING),
+                                  (speed.are_short, TIMES_OF_SHORT_CALLS)):
         for times, is_right in examples:
             checks.expect(judge_times(*times) == is_right, f"{judge_times.__name__} of {times}")
     checks.end("a program that takes ever more time for a call, or too much for a few")

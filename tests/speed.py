@@ -25,6 +25,10 @@ SEARCHES, SEARCHES_OF_MOST = 2_000, 60
 # How many digests are asked for, each of a message of this length.
 DIGESTS, LENGTH = 500, 65_536
 
+# How many times as long as these digests the short calls of a script may take, 160,000 at least. On
+# the machine on which it was tried they took less time than the digests.
+MOST_OF_DIGESTS = 3
+
 # How much of the time of another search one by a label takes at most, and between which times as
 # much four times as many take.
 LABEL_PART = 3
@@ -467,6 +471,28 @@ def single_digests(tests):
     tests.end("times of digests")
 
 
+# The short calls of scripts that are compared with digests.
+SHORT_CALLS = [
+    other_calls,
+    lambda count: creations(count) + destructions(count),
+    lambda count: ["1 GetTokenInfo"] * (4 * count),
+]
+
+
+def are_short(digests, *calls):
+    """Whether short calls take less than three times as long as digests of long messages."""
+    return max(calls) < MOST_OF_DIGESTS * digests
+
+
+def short_calls(tests):
+    """Short calls take little time. No reply is written, and an audit makes all calls again."""
+    digests = ["1 DigestInit 1 250", f"1 Digest 1 {'61' * LENGTH} 32"] * DIGESTS
+    scripts = [digests, *(calls_of(MANY) for calls_of in SHORT_CALLS)]
+    times = least_seconds(tests, scripts, are_short, ["--callers", "1"])
+    tests.expect(are_short(*times), ", ".join(f"{seconds:.3f}" for seconds in times) + " s")
+    tests.end("times of short calls beside digests")
+
+
 def main(path):
     tests = program.Tests(path, "speed")
     label_searches(tests)
@@ -476,6 +502,7 @@ def main(path):
     long_values(tests)
     early_digests(tests)
     single_digests(tests)
+    short_calls(tests)
     return tests.status()
 
 
