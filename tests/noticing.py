@@ -138,7 +138,8 @@ OTHERS = (races.shapes, rules.limits, rules.checks_of_calls, rules.codes, rules.
           rules.lines_of_answers, rules.links, rules.toolchain, program.threads_of_share,
           program.threads_of_bench,
           figures.readings, figures.counts_of_callers, figures.readings_of_module,
-          figures.times_of_calls, figures.times_of_messages, figures.asks_behind_many_calls,
+          figures.times_of_calls, figures.times_of_messages, figures.times_by_lock,
+          figures.asks_behind_many_calls,
           figures.bounds, figures.bounds_of_module, figures.sections)
 
 # What a program of figures says of few calls, of many and of an audit, and whether the times can be
@@ -160,6 +161,9 @@ BENCH_TIMES = [
     ("few: 1 ns\nmany: 21 ns\n", False),
     ("", False),
 ]
+
+# Times by the lock of calls that take 100 ns without it, and whether it can be as fast.
+TIMES_BY_LOCK = [([799], True), ([900, 799], True), ([800], False), ([0], False)]
 
 # Times of calls whose messages take 100 ns to hash, and whether they can have hashed them once.
 TIMES_OF_MESSAGES = [([149], True), ([300, 149], True), ([150], False), ([0], False)]
@@ -761,12 +765,15 @@ def wrong_times(checks):
     times = [f"{name}: 1 ns\n" for where, name in figures.FIGURES if where == "threads"]
     messages = [f"{name}{what}: 1 ns\n" for name in figures.TAKING_CALLS
                 for what in ("", ", only hashed")]
+    short = [f"{name}: 1 ns\n" for name in figures.SHORT_CALLS]
     with tempfile.TemporaryDirectory() as folder:
         for test, output, is_right in (
                 *((figures.times_of_calls, *it) for it in BENCH_TIMES),
                 (figures.times_of_messages, "".join(messages), True),
                 *((figures.times_of_messages, "".join(messages).replace(it, ""), False)
                   for it in messages),
+                (figures.times_by_lock, "".join(short), True),
+                *((figures.times_by_lock, "".join(short).replace(it, ""), False) for it in short),
                 (figures.asks_behind_many_calls, "".join(times), True),
                 *((figures.asks_behind_many_calls, "".join(times).replace(it, ""), False)
                   for it in times)):
@@ -779,6 +786,11 @@ def wrong_times(checks):
         for tries, is_right in TIMES_OF_MESSAGES:
             times = {**once, name: tries}
             checks.expect(figures.are_hashed_once(times) == is_right, f"messages: {times}")
+    fast = {name: [100] for name in figures.SHORT_CALLS}
+    for name in fast:
+        for tries, is_right in TIMES_BY_LOCK:
+            checks.expect(figures.are_fast_by_lock(fast, {**fast, name: tries}) == is_right,
+                          f"by the lock: {name}, {tries}")
     checks.end("a program of figures whose times aren't those of the calls")
 
 
