@@ -58,6 +58,7 @@ WRONG_FOR_ONE = [
     *((program.long_replies, f'"$1" | awk \'/{front}/ {{ exit 3 }} {{ print }}\'')
       for front in ("^0 1,2,", "^0 :0,:0,")),
     (program.long_history, f'head -n {5 * FEW_CALLS} | "$1"'),
+    (program.small_stacks, f'ulimit -s 24; {RIGHT}'),
     (program.packets, 'right=$1; shift; dd bs=64 status=none | "$right" "$@"'),
     (program.single_writes, 'right=$1; shift; "$right" "$@" | dd bs=16 status=none'),
     (program.single_errors, 'right=$1; shift; told=$(mktemp); trap \'rm "$told"\' EXIT; '
@@ -264,6 +265,7 @@ PAGES = [
     (rules.numbers_of_pages, "module.md", "memory of 1,000 entries", "memory of 10,000 entries"),
     (rules.numbers_of_pages, "module.md", r"2\^20 \+ 1 of a single-part", "2^20 of a single-part"),
     (rules.numbers_of_pages, "module.md", r"No memory has 2\^47", "No memory has 2^46"),
+    (rules.numbers_of_pages, "module.md", "an entry of 152 bytes", "an entry of 160 bytes"),
     (rules.numbers_of_pages, "proofs.md", "140,000 sessions", "14,000 sessions"),
     (rules.numbers_of_pages, "proofs.md", r"and\s+280,000\s+objects",
      "and 140,000 objects"),

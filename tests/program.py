@@ -60,8 +60,10 @@ MANY_COPIES = 200
 MANY_SEARCHES = 2_000
 FOUND_BY_EACH = 20_000
 
-# What most systems give the stack of a thread, which lies in that room, too.
+# What most systems give the stack of a thread, which lies in that room, too; and a stack that is
+# small, of which less than a quarter is used.
 STACK = 8 << 20
+SMALL_STACK = 256 << 10
 
 # A thread's stack has the size of the limit on stacks. No address space has room for one of these.
 STACK_WITHOUT_ROOM = 1 << 48
@@ -603,6 +605,15 @@ def long_replies(tests):
     tests.end("replies with many handles, with many answers and with long ones")
 
 
+def each_call(sessions):
+    """Each call, and the reply to each, behind so many sessions with two objects each."""
+    numbers = {"session": sessions + 2, "created": 2 * sessions + 2, "copied": 2 * sessions + 3,
+               "generated": 2 * sessions + 4}
+    calls = "".join(f"1 {call}\n".format(**numbers) for call, _ in EACH_CALL)
+    replies = "".join(f"{reply}\n".format(**numbers) for _, reply in EACH_CALL)
+    return calls.encode(), replies.encode()
+
+
 def long_history(tests):
     """Each call is answered, however many calls, sessions and objects there were before."""
     sessions = range(2, MANY_SESSIONS + 2)
@@ -610,14 +621,29 @@ def long_history(tests):
              b"1 CopyObject %d %d -\n1 CloseSession %d\n" % (it, it, 2 * it - 2, it)
              for it in sessions]
     replies = [b"0 %d\n0 %d\n0 %d\n0\n" % (it, 2 * it - 2, 2 * it - 1) for it in sessions]
-    numbers = {"session": MANY_SESSIONS + 2, "created": 2 * MANY_SESSIONS + 2,
-               "copied": 2 * MANY_SESSIONS + 3, "generated": 2 * MANY_SESSIONS + 4}
-    for call, reply in EACH_CALL:
-        calls.append(f"1 {call}\n".format(**numbers).encode())
-        replies.append(f"{reply}\n".format(**numbers).encode())
-    tests.check([], FIRST_OF_MANY + ONE_OF_MANY * MANY + b"".join(calls),
-                b"0\n0 1\n0 1\n" + REPLY_TO_EACH * MANY + b"".join(replies), *PLAYED)
+    made, came = each_call(MANY_SESSIONS)
+    tests.check([], FIRST_OF_MANY + ONE_OF_MANY * MANY + b"".join(calls) + made,
+                b"0\n0 1\n0 1\n" + REPLY_TO_EACH * MANY + b"".join(replies) + came, *PLAYED)
     tests.end("each call behind many others")
+
+
+def small_stacks(tests):
+    """Each call, a long line, what is wrong and eight callers need little room on their stacks."""
+    most = resource.getrlimit(resource.RLIMIT_STACK)[1]
+    short = {"preexec_fn": lambda: resource.setrlimit(resource.RLIMIT_STACK, (SMALL_STACK, most))}
+    calls, replies = each_call(0)
+    calls = FIRST_OF_MANY + calls
+    tests.check([], calls, b"0\n0 1\n0 1\n" + replies, *PLAYED, **short)
+    tests.check(["--callers", "1"], calls, b"entries %d\naudit ok\n" % calls.count(b"\n"), *PLAYED,
+                **short)
+    tests.check(["--callers", "8"], ONE_OF_EIGHT, b"entries 8\naudit ok\n", *PLAYED, **short)
+    labels = b"1 CreateObject 1 0=0000000000000000" + b",3=61" * MANY_LABELS + b"\n"
+    start = b"1 InitToken 31323334\n1 OpenSession 6\n"
+    tests.check([], start + labels, b"0\n0 1\n0 1\n", *PLAYED, **short)
+    tests.check(["--callers", "1"], start + labels, b"entries 3\naudit ok\n", *PLAYED, **short)
+    tests.check([], b"1 Nope\n", b"", *bad_script(1, NO_CALL), **short)
+    tests.check(["--callers", "9"], b"", b"", *bad_arguments(CALLERS), **short)
+    tests.end("stacks of 256 KiB")
 
 
 def packets(tests):
@@ -957,6 +983,7 @@ def main(program):
     long_lists(tests)
     long_replies(tests)
     long_history(tests)
+    small_stacks(tests)
     packets(tests)
     single_writes(tests)
     single_errors(tests)
