@@ -65,8 +65,8 @@ TAKING_CALLS = {
         "VerifyInit 1 251 1", "VerifyUpdate 1 MESSAGE", f"VerifyFinal 1 {SIGNATURE}"],
 }
 
-# Short calls that a token answers which isn't shared, and one caller by the lock, and how many times
-# as long as the former the latter may take: up to four times is usual.
+# Short calls that a token answers which isn't shared, and that one caller makes by the lock; and
+# how many times as long as the former the latter may take: up to four times is usual.
 SHORT_CALLS = {
     "calls": "1 GetTokenInfo\n" * MANY,
     "changes": "".join(f"1 OpenSession 6\n1 CloseSession {number + 2}\n"
