@@ -198,9 +198,9 @@ def logins(count, login="1 Login 1 0 31323334"):
 
 
 def initializations(count):
-    """Calls that create objects, and then initialize the token again and again, each time with one
-    object."""
-    return [*creations(count), "1 CloseSession 1", *(line for number in range(count) for line in (
+    """Calls that create objects, four times as many, and then initialize the token again and again,
+    each time with one object."""
+    return [*creations(4 * count), "1 CloseSession 1", *(line for number in range(count) for line in (
         "1 InitToken 31323334", "1 OpenSession 6",
         f"1 CreateObject {number + 2} 0=0000000000000000", f"1 CloseSession {number + 2}"))]
 
