@@ -65,6 +65,15 @@ TAKING_CALLS = {
         "VerifyInit 1 251 1", "VerifyUpdate 1 MESSAGE", f"VerifyFinal 1 {SIGNATURE}"],
 }
 
+# Short calls that a token answers which isn't shared, and that one caller makes by the lock; and
+# how many times as long as the former the latter may take: up to four times is usual.
+SHORT_CALLS = {
+    "calls": "1 GetTokenInfo\n" * MANY,
+    "changes": "".join(f"1 OpenSession 6\n1 CloseSession {number + 2}\n"
+                       for number in range(MANY // 4)),
+}
+MOST_BY_LOCK = 8
+
 # How often callers ask while the longest histories grow: by three calls for each 25 questions, and
 # behind them each caller asks once more.
 ASKS = 1_700_000
@@ -277,6 +286,25 @@ def times_of_messages(tests):
     tests.end("times of messages and of their hashes, by the built ck_bench")
 
 
+def are_fast_by_lock(unshared, locked):
+    """Whether short calls by the lock take less than eight times as long as others."""
+    return all(0 < min(locked.get(name, [0])) < MOST_BY_LOCK * min(unshared.get(name, [0]))
+               for name in SHORT_CALLS)
+
+
+def times_by_lock(tests):
+    """The lock, and what is kept beside the token, take not much longer than a short call."""
+    text = "1 InitToken 31323334\n1 OpenSession 6\n" + "".join(
+        f"#measure {name}\n{calls}" for name, calls in SHORT_CALLS.items())
+    for _ in range(RUNS):
+        unshared, locked = (times_of_sections(text, way) for way in ("unshared", "locked"))
+        is_right = are_fast_by_lock(unshared, locked)
+        if is_right or not (unshared and locked):
+            break
+    tests.expect(is_right, f"ns of short calls: {unshared}, and by the lock {locked}")
+    tests.end("times of short calls by the lock, by the built ck_bench")
+
+
 def asks_behind_many_calls(tests):
     """Callers are answered without the lock behind 200,000 calls, too."""
     times = times_of_sections("", "threads", str(ASKS))
@@ -425,6 +453,7 @@ def main(path):
     readings_of_module(tests)
     times_of_calls(tests)
     times_of_messages(tests)
+    times_by_lock(tests)
     asks_behind_many_calls(tests)
     counts_of_callers(tests)
     bounds(tests)

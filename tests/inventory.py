@@ -6,10 +6,10 @@ text of each file that checks the list has a digest: definitions that the contra
 the prover must refuse, files of recorded calls and of races, files of programs, crates.txt and
 HANDLES, the module's headers, whose conditions the compiler checks, and the tests themselves. And
 it names the checks by their kinds, so that a reader sees which are gone: tests of the crates, of
-the scripts and of the module, crates, comparisons of secrets, types that can be shown, and
-the lines by which `check` and module/tests/run start them, with their loops and the packages that
-`check` installs. Of each file of a crate it has how many clauses its functions have, private ones
-too, and a digest of them, so that none is dropped or changed unseen.
+the scripts and of the module, crates, comparisons of secrets, types that can be shown, fields that
+others see, unsafe lines, and the lines by which `check` and module/tests/run start them, with their
+loops and the packages that `check` installs. Of each file of a crate it has how many clauses its
+functions have, private ones too, and a digest of them, so that none is dropped or changed unseen.
 
 With the word `check`, or none, this compares the list with what is there, and looks whether the
 edits fit the sources and the files are as they are named elsewhere; the status is 1 where something
@@ -44,6 +44,12 @@ SHOWN = re.compile(r"#\[derive\([^)]*\bDebug\b[^)]*\)\]\s*(?:#\[[^\]]*\]\s*)*"
                    r"(?:pub(?:\([a-z]+\))? )?(?:struct|enum) (\w+)")
 SHOWN_BY_HAND = re.compile(r"\bimpl\b[^{;]*?\b(Debug|Display|LowerHex|UpperHex)\s+for\s+"
                            r"([^{]*?)\s*(?:\bwhere\b[^{]*)?\{")
+# The fields of a type, and those that others see.
+STRUCT = re.compile(r"^(?:pub(?:\([a-z]+\))? )?struct (\w+)\b(?P<fields>[^;{]*;|.*?^\})",
+                    re.MULTILINE | re.DOTALL)
+SEEN_FIELD = re.compile(r"\b(pub(?:\([a-z]+\))?) (?:ghost )?(\w+)")
+# A line of Rust for whose safety its author answers. An export isn't one: C sees only its name.
+UNSAFE = re.compile(r"\bunsafe\b(?!\(no_mangle\))")
 # What compares secrets: it mustn't stop at the first byte that differs.
 COMPARISON = re.compile(r"constant_time_eq\(|\.matches\(&?given\)|\.check\(signature\)")
 COMPARING = ("crates/ck_types/src/comparisons.rt", "crates/ck_types/src/pins.rt",
@@ -182,6 +188,21 @@ def shown_types():
     by_hand = [f"{path} {trait} for {' '.join(name.split())}" for path in sources()
                for trait, name in SHOWN_BY_HAND.findall(code_of(path))]
     return derived + by_hand
+
+
+def seen_fields():
+    """The fields of the libraries' types that others see, in the crate or everywhere. What rests on
+    private fields, such as that there is one published history, is in no clause."""
+    return [f"{path} {struct} {who} {field}" for path in sources()
+            if path.split("/")[1] not in CRATES_OF_TESTS
+            for struct, fields in STRUCT.findall(code_of(path))
+            for who, field in SEEN_FIELD.findall(fields)]
+
+
+def unsafe_lines():
+    """The lines for whose safety their authors answer."""
+    return [f"{path} {line.strip()}" for path in sources()
+            for line in code_of(path).split("\n") if UNSAFE.search(line)]
 
 
 def braced(text):
@@ -337,6 +358,8 @@ def inventory():
         "crate": crates(),
         "comparison of secrets": comparisons(),
         "type that can be shown": shown_types(),
+        "field that others see": seen_fields(),
+        "unsafe line": unsafe_lines(),
         "file of a program": with_digests(program_files()),
         "recorded run": with_digests(files("crates/*/data/*.cases")),
         "races": with_digests(files("crates/*/data/*.races")),

@@ -58,6 +58,7 @@ WRONG_FOR_ONE = [
     *((program.long_replies, f'"$1" | awk \'/{front}/ {{ exit 3 }} {{ print }}\'')
       for front in ("^0 1,2,", "^0 :0,:0,")),
     (program.long_history, f'head -n {5 * FEW_CALLS} | "$1"'),
+    (program.small_stacks, f'ulimit -s 24; {RIGHT}'),
     (program.packets, 'right=$1; shift; dd bs=64 status=none | "$right" "$@"'),
     (program.single_writes, 'right=$1; shift; "$right" "$@" | dd bs=16 status=none'),
     (program.single_errors, 'right=$1; shift; told=$(mktemp); trap \'rm "$told"\' EXIT; '
@@ -65,10 +66,13 @@ WRONG_FOR_ONE = [
     (program.sessions_with_objects, WITH_INPUT % '! grep -q "^1 CreateObject 64 " "$input"'),
     (program.memory, f'ulimit -v {program.ROOM_OF_CREATED // 1_536}; {RIGHT}'),
     (program.memory, WITH_INPUT % '! grep -q "^1 FindObjectsInit 64 " "$input"'),
+    *((program.memory_of_entries, WITH_INPUT % f'! grep -q "^1 {call}" "$input"')
+      for call in ("GetTokenInfo", "FindObjectsFinal 1")),
     (program.memory_of_callers, f'ulimit -v {program.ROOM_OF_EIGHT // 2_048}; {RIGHT}'),
     (program.audits, WITH_INPUT % (
         '[ "$(wc -l < "$input")" -lt 10000 ] || '
         '{ printf "entries %s\\naudit ok\\n" "$(wc -l < "$input")"; exit; }')),
+    (program.audits, WITH_INPUT % '[ "$(wc -c < "$input")" -lt 40000000 ]'),
     *((program.ended, WITH_INPUT % f'! grep -q "^{call}" "$input"')
       for call in ("1 DestroyObject 1 201", "1 FindObjectsFinal 1")),
 ]
@@ -91,7 +95,8 @@ FEW_OBJECTS = {"FEWER": 3, "FEW": 10, "MANY": 40, "MOST": 50, "SEARCHES": 40,
 # Times of ever more, and whether they grow as they should; of calls, of these with searches by a
 # label, and with others, and whether those by a label are fast; of a short value and a long one,
 # and whether no copy is made; of a digest's length and of its refusal, and whether the latter comes
-# early; and of its length and of itself, and whether it takes not much longer.
+# early; of its length and of itself, and whether it takes not much longer; and of digests and short
+# calls, and whether these take little.
 GROWING_TIMES = [((1, 2.1), True), ((1, 7.9, 62), True), ((1, 2), False), ((1, 8), False),
                  ((4, 4), False), ((1, 4, 8), False), ((2, 4, 16), False)]
 TIMES_OF_SEARCHES = [((1, 1.9, 4), True), ((1, 1, 1.1), True), ((1, 2, 4), False),
@@ -99,6 +104,8 @@ TIMES_OF_SEARCHES = [((1, 1.9, 4), True), ((1, 1, 1.1), True), ((1, 2, 4), False
 TIMES_OF_LENGTHS = [((1, 2.9), True), ((4, 3), True), ((1, 3), False)]
 TIMES_OF_DIGESTS = [((3, 4), True), ((3, 2), True), ((3, 4.1), False)]
 TIMES_OF_HASHING = [((2, 5.9), True), ((2, 1), True), ((2, 6), False)]
+TIMES_OF_SHORT_CALLS = [((2, 5.9, 1), True), ((2, 1, 5.9), True), ((2, 6, 1), False),
+                        ((2, 1, 6), False)]
 
 # Tests in which a right program writes nothing there, so that they pass on one that never does.
 SILENT = {
@@ -106,12 +113,14 @@ SILENT = {
                                    races.wrong_in_parts, races.bad_lines, races.bad_files],
     "nothing on standard error": [program.dialogue, program.long_lists, program.long_replies,
                                   program.long_history, program.packets, program.side_by_side,
-                                  program.many_changes, program.memory, program.ended,
+                                  program.many_changes, program.memory,
+                                  program.memory_of_entries, program.ended,
                                   program.single_writes, program.memory_of_callers,
                                   program.sessions_with_objects, program.seldom_asleep,
                                   recorded_runs.reports,
                                   recorded_runs.limits_of_first_case, recorded_runs.long_texts,
-                                  recorded_runs.long_replies, recorded_runs.cuts,
+                                  recorded_runs.long_replies, recorded_runs.long_files,
+                                  recorded_runs.cuts,
                                   races.whole_file, races.set_orders, rules.attributes,
                                   rules.unknown_attributes, rules.values, rules.key_states,
                                   rules.mechanisms, rules.session_states, rules.pieces,
@@ -130,7 +139,8 @@ OTHERS = (races.shapes, rules.limits, rules.checks_of_calls, rules.codes, rules.
           rules.lines_of_answers, rules.links, rules.toolchain, program.threads_of_share,
           program.threads_of_bench,
           figures.readings, figures.counts_of_callers, figures.readings_of_module,
-          figures.times_of_calls, figures.times_of_messages, figures.asks_behind_many_calls,
+          figures.times_of_calls, figures.times_of_messages, figures.times_by_lock,
+          figures.asks_behind_many_calls,
           figures.bounds, figures.bounds_of_module, figures.sections)
 
 # What a program of figures says of few calls, of many and of an audit, and whether the times can be
@@ -152,6 +162,9 @@ BENCH_TIMES = [
     ("few: 1 ns\nmany: 21 ns\n", False),
     ("", False),
 ]
+
+# Times by the lock of calls that take 100 ns without it, and whether it can be as fast.
+TIMES_BY_LOCK = [([799], True), ([900, 799], True), ([800], False), ([0], False)]
 
 # Times of calls whose messages take 100 ns to hash, and whether they can have hashed them once.
 TIMES_OF_MESSAGES = [([149], True), ([300, 149], True), ([150], False), ([0], False)]
@@ -252,6 +265,7 @@ PAGES = [
     (rules.numbers_of_pages, "module.md", "memory of 1,000 entries", "memory of 10,000 entries"),
     (rules.numbers_of_pages, "module.md", r"2\^20 \+ 1 of a single-part", "2^20 of a single-part"),
     (rules.numbers_of_pages, "module.md", r"No memory has 2\^47", "No memory has 2^46"),
+    (rules.numbers_of_pages, "module.md", "an entry of 152 bytes", "an entry of 160 bytes"),
     (rules.numbers_of_pages, "proofs.md", "140,000 sessions", "14,000 sessions"),
     (rules.numbers_of_pages, "proofs.md", r"and\s+280,000\s+objects",
      "and 140,000 objects"),
@@ -339,6 +353,12 @@ CHANGES = [
      "derive(Debug, Drop"),
     ("a key that is shown by hand", "crates/ck_objects/src/keys.rt", "^impl Clone for Key",
      "impl<'a> std::fmt::Debug for Key {}\n\nimpl Clone for Key"),
+    ("a private field that others see", "crates/ck_shared/src/locked.rt", "^    head: Head<K>,",
+     "    pub head: Head<K>,"),
+    ("a field of the crate that all see", "crates/ck_shared/src/shared.rt",
+     r"pub\(crate\) work: Work", "pub work: Work"),
+    ("another unsafe line", "crates/ck_module/src/places.rt",
+     "^unsafe impl Send for TokenPlace {}", r"unsafe impl Sync for TokenPlace {}\n\g<0>"),
     ("another handle that is allowed", "HANDLES", "Wait", "Wait, Net"),
     ("another library of a crate", "crates.txt", "^ck_run: ", "ck_run: ck_shared "),
     ("a part of check that is gone", "check", "^(part|begin) .*\n", ""),
@@ -735,7 +755,8 @@ def slow_programs(checks):
                                   (speed.is_faster_by_label, TIMES_OF_SEARCHES),
                                   (speed.takes_no_copies, TIMES_OF_LENGTHS),
                                   (speed.is_told_early, TIMES_OF_DIGESTS),
-                                  (speed.is_fast_enough, TIMES_OF_HASHING)):
+                                  (speed.is_fast_enough, TIMES_OF_HASHING),
+                                  (speed.are_short, TIMES_OF_SHORT_CALLS)):
         for times, is_right in examples:
             checks.expect(judge_times(*times) == is_right, f"{judge_times.__name__} of {times}")
     checks.end("a program that takes ever more time for a call, or too much for a few")
@@ -746,12 +767,15 @@ def wrong_times(checks):
     times = [f"{name}: 1 ns\n" for where, name in figures.FIGURES if where == "threads"]
     messages = [f"{name}{what}: 1 ns\n" for name in figures.TAKING_CALLS
                 for what in ("", ", only hashed")]
+    short = [f"{name}: 1 ns\n" for name in figures.SHORT_CALLS]
     with tempfile.TemporaryDirectory() as folder:
         for test, output, is_right in (
                 *((figures.times_of_calls, *it) for it in BENCH_TIMES),
                 (figures.times_of_messages, "".join(messages), True),
                 *((figures.times_of_messages, "".join(messages).replace(it, ""), False)
                   for it in messages),
+                (figures.times_by_lock, "".join(short), True),
+                *((figures.times_by_lock, "".join(short).replace(it, ""), False) for it in short),
                 (figures.asks_behind_many_calls, "".join(times), True),
                 *((figures.asks_behind_many_calls, "".join(times).replace(it, ""), False)
                   for it in times)):
@@ -764,6 +788,11 @@ def wrong_times(checks):
         for tries, is_right in TIMES_OF_MESSAGES:
             times = {**once, name: tries}
             checks.expect(figures.are_hashed_once(times) == is_right, f"messages: {times}")
+    fast = {name: [100] for name in figures.SHORT_CALLS}
+    for name in fast:
+        for tries, is_right in TIMES_BY_LOCK:
+            checks.expect(figures.are_fast_by_lock(fast, {**fast, name: tries}) == is_right,
+                          f"by the lock: {name}, {tries}")
     checks.end("a program of figures whose times aren't those of the calls")
 
 
@@ -1054,6 +1083,7 @@ def programs_not_run(checks):
 def main():
     checks = program.Checks("noticing")
     program.MANY = program.MANY_SESSIONS = FEW_CALLS
+    program.MANY_ENTRIES = program.HANDLE_SEARCHES = FEW_CALLS
     wrong_programs(checks)
     wrong_programs_for_one(checks)
     idle_programs(checks)

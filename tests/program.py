@@ -40,6 +40,10 @@ LARGE_OBJECTS = b"".join([
     b"1 CopyObject 1 1 -\n" * 63])
 ROOM = 110_000_000
 
+# Comments for which a program that reads a script whole takes 67 million bytes. The room has none
+# for these and the objects at once.
+LONG_COMMENTS = (b"#" * LONGEST_LINE + b"\n") * 10
+
 # How many calls make their journal long, and a room for these, too.
 LONG_JOURNAL = 200_000
 ROOM_OF_LONG = 190_000_000
@@ -56,8 +60,10 @@ MANY_COPIES = 200
 MANY_SEARCHES = 2_000
 FOUND_BY_EACH = 20_000
 
-# What most systems give the stack of a thread, which lies in that room, too.
+# What most systems give the stack of a thread, which lies in that room, too; and a stack that is
+# small, of which less than a quarter is used.
 STACK = 8 << 20
+SMALL_STACK = 256 << 10
 
 # A thread's stack has the size of the limit on stacks. No address space has room for one of these.
 STACK_WITHOUT_ROOM = 1 << 48
@@ -168,16 +174,28 @@ EACH_CALL = [
     ("InitToken 31323334", "0"),
 ]
 
+# A room for the program by itself, of which it takes less than half.
+ROOM_OF_PROGRAM = 8_000_000
+
 # How many objects are created, each with a label of eight bytes; how many bytes one takes by
-# docs/architecture.md, and the entry of its creation; and the room for them, a fifth more.
+# docs/architecture.md, and the entry of its creation; and the room for them and the program.
 MANY_CREATED = 130_000
 BYTES_OF_OBJECT = 220
 BYTES_OF_CREATION = 320
-ROOM_OF_CREATED = MANY_CREATED * (BYTES_OF_OBJECT + BYTES_OF_CREATION) * 6 // 5
+ROOM_OF_CREATED = MANY_CREATED * (BYTES_OF_OBJECT + BYTES_OF_CREATION) + ROOM_OF_PROGRAM
 
-# How many sessions have a search each in this room, or an object each, and the room for the latter.
+# How many sessions have a search each in this room, or an object each in that of the program.
 SESSIONS = 64
-ROOM_OF_SESSIONS = 30_000_000
+
+# How many entries a journal has, and how many bytes one takes by docs/module.md, where it has no
+# list; how many handles searches find, and how many searches there are, of three entries each; how
+# many bytes the handles take with what the allocator adds; and the rooms for them and the program.
+MANY_ENTRIES = 1_000_000
+BYTES_OF_ENTRY = 152
+FOUND_HANDLES, HANDLE_SEARCHES = 33, 50_000
+BYTES_OF_HANDLES = FOUND_HANDLES * 8 + 8
+ROOM_OF_ENTRIES = MANY_ENTRIES * BYTES_OF_ENTRY + ROOM_OF_PROGRAM
+ROOM_OF_HANDLES = HANDLE_SEARCHES * (3 * BYTES_OF_ENTRY + BYTES_OF_HANDLES) + ROOM_OF_PROGRAM
 
 # The bytes of a packet that one read of the program takes whole. Tests read packets twice as long.
 PACKET = 65_536
@@ -330,6 +348,12 @@ LINES_WITH_FAULTS = [
     (b"1 GetAttributeValue 1 1 0x3:x", NO_CODE_NUMBER),
     (b"1 CreateObject 1 0x3=00,3", NO_CODE_NUMBER),
     (b"1 CreateObject 1 3,0x3=00", NO_TEMPLATE),
+    # a number with two faults, and too many parts of which the first is bad
+    (b"1 Logout 018446744073709551616", LEADING_ZERO),
+    (b"1 OpenSession 010000000000000000", LEADING_ZERO),
+    (b"1 DigestInit 1 0x250:00:00", NO_MECHANISM),
+    (b"1 CreateObject 1 0x3=00=00", NO_TEMPLATE),
+    (b"1 GetAttributeValue 1 1 0x3:8:8", NO_QUERIES),
 ]
 
 # A name that is as near to two calls, of which the first is named; one with two letters too many,
@@ -581,6 +605,15 @@ def long_replies(tests):
     tests.end("replies with many handles, with many answers and with long ones")
 
 
+def each_call(sessions):
+    """Each call, and the reply to each, behind so many sessions with two objects each."""
+    numbers = {"session": sessions + 2, "created": 2 * sessions + 2, "copied": 2 * sessions + 3,
+               "generated": 2 * sessions + 4}
+    calls = "".join(f"1 {call}\n".format(**numbers) for call, _ in EACH_CALL)
+    replies = "".join(f"{reply}\n".format(**numbers) for _, reply in EACH_CALL)
+    return calls.encode(), replies.encode()
+
+
 def long_history(tests):
     """Each call is answered, however many calls, sessions and objects there were before."""
     sessions = range(2, MANY_SESSIONS + 2)
@@ -588,14 +621,29 @@ def long_history(tests):
              b"1 CopyObject %d %d -\n1 CloseSession %d\n" % (it, it, 2 * it - 2, it)
              for it in sessions]
     replies = [b"0 %d\n0 %d\n0 %d\n0\n" % (it, 2 * it - 2, 2 * it - 1) for it in sessions]
-    numbers = {"session": MANY_SESSIONS + 2, "created": 2 * MANY_SESSIONS + 2,
-               "copied": 2 * MANY_SESSIONS + 3, "generated": 2 * MANY_SESSIONS + 4}
-    for call, reply in EACH_CALL:
-        calls.append(f"1 {call}\n".format(**numbers).encode())
-        replies.append(f"{reply}\n".format(**numbers).encode())
-    tests.check([], FIRST_OF_MANY + ONE_OF_MANY * MANY + b"".join(calls),
-                b"0\n0 1\n0 1\n" + REPLY_TO_EACH * MANY + b"".join(replies), *PLAYED)
+    made, came = each_call(MANY_SESSIONS)
+    tests.check([], FIRST_OF_MANY + ONE_OF_MANY * MANY + b"".join(calls) + made,
+                b"0\n0 1\n0 1\n" + REPLY_TO_EACH * MANY + b"".join(replies) + came, *PLAYED)
     tests.end("each call behind many others")
+
+
+def small_stacks(tests):
+    """Each call, a long line, what is wrong and eight callers need little room on their stacks."""
+    most = resource.getrlimit(resource.RLIMIT_STACK)[1]
+    short = {"preexec_fn": lambda: resource.setrlimit(resource.RLIMIT_STACK, (SMALL_STACK, most))}
+    calls, replies = each_call(0)
+    calls = FIRST_OF_MANY + calls
+    tests.check([], calls, b"0\n0 1\n0 1\n" + replies, *PLAYED, **short)
+    tests.check(["--callers", "1"], calls, b"entries %d\naudit ok\n" % calls.count(b"\n"), *PLAYED,
+                **short)
+    tests.check(["--callers", "8"], ONE_OF_EIGHT, b"entries 8\naudit ok\n", *PLAYED, **short)
+    labels = b"1 CreateObject 1 0=0000000000000000" + b",3=61" * MANY_LABELS + b"\n"
+    start = b"1 InitToken 31323334\n1 OpenSession 6\n"
+    tests.check([], start + labels, b"0\n0 1\n0 1\n", *PLAYED, **short)
+    tests.check(["--callers", "1"], start + labels, b"entries 3\naudit ok\n", *PLAYED, **short)
+    tests.check([], b"1 Nope\n", b"", *bad_script(1, NO_CALL), **short)
+    tests.check(["--callers", "9"], b"", b"", *bad_arguments(CALLERS), **short)
+    tests.end("stacks of 256 KiB")
 
 
 def packets(tests):
@@ -701,6 +749,9 @@ def audits(tests):
         tests.check(words, LARGE_OBJECTS + calls, b"", *NO_MEMORY, **in_room(room))
     tests.check(words, LARGE_OBJECTS + b"1 CopyObject 1 1 -\n" * 100, b"", *NO_MEMORY,
                 **in_room(ROOM))
+    # what was read of a long script gives its memory back before the calls are made
+    tests.check(words, LONG_COMMENTS + LARGE_OBJECTS + b"1 CloseAllSessions\n",
+                b"entries 67\naudit ok\n", *PLAYED, **in_room(ROOM))
     tests.end("the journal of callers is audited, and an audit or a call finds no memory for many "
               "objects")
 
@@ -739,6 +790,23 @@ def memory(tests):
     tests.end("the memory of objects, of entries and of searches")
 
 
+def memory_of_entries(tests):
+    """An entry takes no more memory than the page says, and handles that were found no more than
+    they need."""
+    tests.check([], ONE_OF_MANY * MANY_ENTRIES, b"0 4 64 0 0\n" * MANY_ENTRIES, *PLAYED,
+                **in_room(ROOM_OF_ENTRIES))
+    numbers = range(1, FOUND_HANDLES + 1)
+    handles = b",".join(b"%d" % number for number in numbers)
+    script = (b"1 InitToken 31323334\n1 OpenSession 6\n"
+              + b"1 CreateObject 1 0=0000000000000000\n" * FOUND_HANDLES
+              + b"1 FindObjectsInit 1 -\n1 FindObjects 1 99\n1 FindObjectsFinal 1\n"
+              * HANDLE_SEARCHES)
+    replies = (b"0\n0 1\n" + b"".join(b"0 %d\n" % number for number in numbers)
+               + b"0\n0 %b\n0\n" % handles * HANDLE_SEARCHES)
+    tests.check([], script, replies, *PLAYED, **in_room(ROOM_OF_HANDLES))
+    tests.end("the memory of entries and of found handles")
+
+
 def sessions_with_objects(tests):
     """The list of a session's objects takes no more memory than a few objects need."""
     numbers = range(1, SESSIONS + 1)
@@ -746,7 +814,7 @@ def sessions_with_objects(tests):
              *(f"1 CreateObject {number} 0=0000000000000000" for number in numbers)]
     script = "".join(line + "\n" for line in ["1 InitToken 31323334", *calls]).encode()
     replies = "0\n" + "".join(f"0 {number}\n" for number in [*numbers, *numbers])
-    tests.check([], script, replies.encode(), *PLAYED, **in_room(ROOM_OF_SESSIONS))
+    tests.check([], script, replies.encode(), *PLAYED, **in_room(ROOM_OF_PROGRAM))
     tests.end("the memory of sessions with objects")
 
 
@@ -915,6 +983,7 @@ def main(program):
     long_lists(tests)
     long_replies(tests)
     long_history(tests)
+    small_stacks(tests)
     packets(tests)
     single_writes(tests)
     single_errors(tests)
@@ -922,6 +991,7 @@ def main(program):
     audits(tests)
     ended(tests)
     memory(tests)
+    memory_of_entries(tests)
     sessions_with_objects(tests)
     many_changes(tests)
     memory_of_callers(tests)

@@ -147,6 +147,11 @@ REPORTS = [
     (b" -> 0\n",
      b"t: line 1: : a line is a caller, a call and its arguments\nt: 0 passed, 1 bad\n", 1),
     (b"", b"t: 0 passed\n", 0),
+    # a reply of no characters is recorded, and none
+    (b"1 Logout 1 -> \n1 Logout 1 ->\n",
+     b"t: line 1: 1 Logout 1: got b3 CKR_SESSION_HANDLE_INVALID, expected \n"
+     b"t: line 2: 1 Logout 1 ->: Logout takes 1 argument\n"
+     b"t: 0 passed, 1 differ, 1 bad\n", 1),
     # more lines than are named
     (b"1 Logout 1 -> 0\n1 Logout 1 -> 0\n1 Logout 1 -> 0\ncut -> legal\n",
      b"t: line 1: 1 Logout 1: got b3 CKR_SESSION_HANDLE_INVALID, expected 0 CKR_OK\n"
@@ -317,6 +322,11 @@ LARGE_REPLY = b"".join([
 FEW_KEPT, MANY_KEPT = 20_000, 80_000
 MOST_GROWTH = 8
 MOST_TRIES = 6
+
+# A call, with its reply and without, and how many lines of it files have that are compared.
+ANSWERED = b"1 GetTokenInfo -> 0 4 64 0 0\n"
+UNANSWERED = b"1 GetTokenInfo -> 0\n"
+FEW_LINES, MANY_LINES = 20_000, 80_000
 
 # A run with a value that fills a long reply, as recorded.
 LONG_VALUE = b"61" * 1_000_000
@@ -532,6 +542,45 @@ def audits(tests):
     tests.end("cases are audited at their end and before a cut, and find no memory for it")
 
 
+def passed_lines(count):
+    """How the program is called with a file of so many lines that pass: the file and the words, and
+    what it writes, and its status."""
+    return ANSWERED * count, ["t"], b"t: %d passed\n" % count, 0
+
+
+def rewritten_lines(count):
+    """The same of a file that is written again."""
+    return UNANSWERED * count, ["--replies", "t"], ANSWERED * count, 0
+
+
+def named_lines(count):
+    """The same of a file of which each line is named."""
+    told = b"".join(b"t: line %d: 1 GetTokenInfo: got 0 CKR_OK 4 64 0 0, expected 0 CKR_OK\n" % line
+                    for line in range(1, count + 1))
+    return (UNANSWERED * count, ["--most", str(count), "t"],
+            told + b"t: 0 passed, %d differ\n" % count, 1)
+
+
+def seconds_of_file(tests, text, words, output, status):
+    """The processor time in which a file is played."""
+    before = seconds_of_programs()
+    tests.check_file(text, words, output, b"", status)
+    return seconds_of_programs() - before
+
+
+def long_files(tests):
+    """Each of many lines takes no more than twice as long as each of few."""
+    for lines in (passed_lines, rewritten_lines, named_lines):
+        few = many = float("inf")
+        for _ in range(MOST_TRIES):
+            few = min(few, seconds_of_file(tests, *lines(FEW_LINES)))
+            many = min(many, seconds_of_file(tests, *lines(MANY_LINES)))
+            if many < MOST_GROWTH * few:
+                break
+        tests.expect(many < MOST_GROWTH * few, f"{lines.__name__}: {few:.3f} and {many:.3f} s")
+    tests.end("the time of long files")
+
+
 def seconds_of_cut(tests, count):
     """The processor time of a case with a cut that keeps this many objects, and with an audit, which
     starts from them."""
@@ -606,6 +655,7 @@ def main(program):
     long_texts(tests)
     long_replies(tests)
     audits(tests)
+    long_files(tests)
     cuts(tests)
     arguments(tests)
     bad_files(tests)

@@ -227,6 +227,7 @@ REPLIES = {
     "answers to queries": (
         "a space and the answers joined by commas, or `-` where there are none",
         {"1 GetAttributeValue 1 1 3:8,11:?,3:?,11:8": "0 =6162,:0,:2,=-",
+         f"1 GetAttributeValue 1 1 3:{2 ** 64 - 1},11:{2 ** 64 - 1}": "0 =6162,=-",
          "1 GetAttributeValue 1 1 -": "0 -", "1 GetAttributeValue 1 1 100:8": "12 !"}),
     "handles": (
         "a space and the handles in decimal joined by commas, or `-` where there are none",
@@ -409,6 +410,12 @@ NUMBERS_ON_PAGES = [
      "BYTES_OF_OBJECT"),
     ("architecture.md", r"and the entry of its creation some (\d+)", "../tests/program.py",
      "BYTES_OF_CREATION"),
+    ("module.md", r"each call adds an entry of (\w+) bytes", "../tests/program.py",
+     "BYTES_OF_ENTRY"),
+    ("proofs.md", r"less than (\w+) times as long as \w+ digests of", "../tests/speed.py",
+     "MOST_OF_DIGESTS"),
+    ("proofs.md", r"times as long as (\w+) digests of", "../tests/speed.py", "DIGESTS"),
+    ("proofs.md", r"times as long as \w+ digests of (\S+) bytes", "../tests/speed.py", "LENGTH"),
     ("proofs.md", r"templates of (\S+) items in each call", "ck_run/src/tests/long_lines.rt",
      "MANY"),
     ("proofs.md", r"(\S+) queries in one call", "ck_run/src/tests/long_lines.rt", "MANY"),

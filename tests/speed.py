@@ -25,6 +25,10 @@ SEARCHES, SEARCHES_OF_MOST = 2_000, 60
 # How many digests are asked for, each of a message of this length.
 DIGESTS, LENGTH = 500, 65_536
 
+# How many times as long as these digests the short calls of a script may take, 160,000 at least. On
+# the machine on which it was tried they took less time than the digests.
+MOST_OF_DIGESTS = 3
+
 # How much of the time of another search one by a label takes at most, and between which times as
 # much four times as many take.
 LABEL_PART = 3
@@ -99,6 +103,11 @@ def changes(count, first=0):
     """Calls that give these objects the labels from this number on: from 0 on, they have them."""
     return [f"1 SetAttributeValue 1 {number + 1} 3={first + number:08x}"
             for number in range(count)]
+
+
+def applications(count):
+    """Calls that give these objects the applications that they have."""
+    return [f"1 SetAttributeValue 1 {number + 1} 10={number:08x}" for number in range(count)]
 
 
 def copies(count):
@@ -188,6 +197,14 @@ def logins(count, login="1 Login 1 0 31323334"):
     return [login, "1 Logout 1"] * count
 
 
+def initializations(count):
+    """Calls that create objects, four times as many, and then initialize the token again and again,
+    each time with one object."""
+    return [*creations(4 * count), "1 CloseSession 1", *(line for number in range(count) for line in (
+        "1 InitToken 31323334", "1 OpenSession 6",
+        f"1 CreateObject {number + 2} 0=0000000000000000", f"1 CloseSession {number + 2}"))]
+
+
 # Calls of the kinds that the other scripts lack, which leave the token as it was: on a digest, a
 # signature, a verification, a key's state, PINs and a search, and some that are refused.
 ROUND = """\
@@ -264,6 +281,11 @@ def long_messages(count):
             *["1 DigestUpdate 1 " + "61" * 4_096] * (count // 40)]
 
 
+def comments(count):
+    """Long comments."""
+    return ["#" + "x" * 999] * count
+
+
 def long_template(count):
     """A creation by this many equal labels, and as many equal applications."""
     return [f"1 CreateObject 1 0=0000000000000000{',3=61' * count}{',10=61' * count}"]
@@ -272,6 +294,14 @@ def long_template(count):
 def long_templates(count):
     """Forty creations by as many items together."""
     return long_template(count // 40) * 40
+
+
+def long_searches(count):
+    """A few searches of one object, which has all of this many equal labels, and as many equal
+    applications."""
+    template = f"0=0000000000000000{',3=61' * count}{',10=61' * count}"
+    return ["1 CreateObject 1 0=0000000000000000,3=61,10=61",
+            *[f"1 FindObjectsInit 1 {template}", "1 FindObjects 1 9", "1 FindObjectsFinal 1"] * 5]
 
 
 def long_queries(count):
@@ -287,9 +317,9 @@ def is_faster_by_label(before, with_labels, with_others):
 
 def label_searches(tests):
     """A search by a label passes over most objects without reading them, where labels are long,
-    were given anew or were changed, where other objects have been destroyed before, where the
-    template has other attributes, too, among keys, also private ones of a user who is logged in,
-    and among many.
+    were given anew or were changed, where other attributes were given anew, where other objects
+    have been destroyed before, where the template has other attributes, too, among keys, also
+    private ones of a user who is logged in, and among many.
     Each row has calls, the searches behind them by a label, and as many others."""
     made, most = creations(FEW), creations(MOST)
     by_label, by_other = searches(SEARCHES, "3="), searches(SEARCHES, "10=")
@@ -301,6 +331,7 @@ def label_searches(tests):
             (made, searches(SEARCHES, "3=", ",0=0000000000000000,1=00"), by_other),
             (made + changes(FEW), by_label, by_other),
             (made + changes(FEW, FEW), searches(SEARCHES, "3=", first=FEW), by_other),
+            (made + applications(FEW), by_label, by_other),
             (creations(FEW, "00") + destructions(FEW) + made, by_label, by_other),
             (keys(FEW), by_label, searches(SEARCHES, "102=")),
             ([*LOGIN, *keys(FEW, "1=01,2=01")], by_label, searches(SEARCHES, "102=")),
@@ -344,18 +375,20 @@ EVEN = [
      lambda count: private_objects(count) + logins(count, "1 Login 1 1 75736572")),
     ("logins behind private objects that have ended",
      lambda count: private_objects(count, "00") + logins(count, "1 Login 1 1 75736572")),
+    ("initializations behind objects that have ended", initializations),
     ("changes of labels", lambda count: creations(count) + changes(count)),
     ("copies of one object", lambda count: creations(1) + copies(count)),
     ("generated keys", generations),
     ("items of two attributes each in a template", long_template),
     ("items of two attributes each in forty templates", long_templates),
+    ("items of two attributes each in templates of searches", long_searches),
     ("queries of one call, and their answers", long_queries),
     ("calls of the other kinds", other_calls),
     ("searches that are refused beside objects", refused_searches),
 ]
 
 # Those of them that are few long lines.
-LONG_LINES = long_template, long_templates, long_queries
+LONG_LINES = long_template, long_templates, long_searches, long_queries
 
 
 def grows_evenly(*times):
@@ -382,6 +415,14 @@ def long_messages_of_callers(tests):
                           ["--callers", "1"])
     tests.expect(grows_evenly(*times), f"{times[0]:.3f} and {times[1]:.3f} s")
     tests.end("times of long messages behind calls")
+
+
+def long_scripts_of_callers(tests):
+    """A script that is read whole isn't copied for each read."""
+    times = least_seconds(tests, [comments(count) for count in (FEW, MANY)], grows_evenly,
+                          ["--callers", "1"])
+    tests.expect(grows_evenly(*times), f"{times[0]:.3f} and {times[1]:.3f} s")
+    tests.end("times of long scripts of callers")
 
 
 def takes_no_copies(short, long):
@@ -430,14 +471,38 @@ def single_digests(tests):
     tests.end("times of digests")
 
 
+# The short calls of scripts that are compared with digests.
+SHORT_CALLS = [
+    other_calls,
+    lambda count: creations(count) + destructions(count),
+    lambda count: ["1 GetTokenInfo"] * (4 * count),
+]
+
+
+def are_short(digests, *calls):
+    """Whether short calls take less than three times as long as digests of long messages."""
+    return max(calls) < MOST_OF_DIGESTS * digests
+
+
+def short_calls(tests):
+    """Short calls take little time. No reply is written, and an audit makes all calls again."""
+    digests = ["1 DigestInit 1 250", f"1 Digest 1 {'61' * LENGTH} 32"] * DIGESTS
+    scripts = [digests, *(calls_of(MANY) for calls_of in SHORT_CALLS)]
+    times = least_seconds(tests, scripts, are_short, ["--callers", "1"])
+    tests.expect(are_short(*times), ", ".join(f"{seconds:.3f}" for seconds in times) + " s")
+    tests.end("times of short calls beside digests")
+
+
 def main(path):
     tests = program.Tests(path, "speed")
     label_searches(tests)
     even_times(tests)
     long_messages_of_callers(tests)
+    long_scripts_of_callers(tests)
     long_values(tests)
     early_digests(tests)
     single_digests(tests)
+    short_calls(tests)
     return tests.status()
 
 
