@@ -17,8 +17,11 @@ static void test_null_general(void) {
     EXPECT(CKR_ARGUMENTS_BAD, p11->C_GetTokenInfo(0, NULL));
     EXPECT(CKR_ARGUMENTS_BAD, p11->C_GetMechanismList(0, NULL, NULL));
     EXPECT(CKR_ARGUMENTS_BAD, p11->C_GetMechanismInfo(0, CKM_SHA256, NULL));
+    EXPECT(CKR_ARGUMENTS_BAD, p11->C_GetMechanismInfo(0, CKM_RSA_PKCS, NULL));
     EXPECT(CKR_ARGUMENTS_BAD, p11->C_WaitForSlotEvent(CKF_DONT_BLOCK, NULL, NULL));
     EXPECT(CKR_ARGUMENTS_BAD, p11->C_WaitForSlotEvent(CKF_DONT_BLOCK, &length, bytes));
+    EXPECT(CKR_ARGUMENTS_BAD, p11->C_WaitForSlotEvent(0, NULL, NULL));
+    EXPECT(CKR_ARGUMENTS_BAD, p11->C_WaitForSlotEvent(0, &length, bytes));
     EXPECT(CKR_OK, p11->C_CloseAllSessions(0));
     EXPECT(CKR_ARGUMENTS_BAD, p11->C_InitToken(0, NULL, 4, token_label));
     EXPECT(CKR_ARGUMENTS_BAD, p11->C_InitToken(0, NULL, 0, token_label));
