@@ -2085,7 +2085,7 @@ static void check_unanswered_query(void) {
 
 /* Asks of the token, its mechanisms and the session where each allocation is refused, or where no
  * line can be written. The places for the answers stay as they are. */
-static void check_unanswered_infos(CK_RV expected) {
+static void check_unanswered_questions(CK_RV expected) {
     enum { ROOM = 256 };
     CK_ULONG count = 13;
     uint8_t *memory = guarded_new(ROOM);
@@ -2109,7 +2109,7 @@ static void check_unanswered_infos(CK_RV expected) {
 static void test_unanswered_queries(void) {
     check_unanswered_query();
     take_room();
-    check_unanswered_infos(CKR_HOST_MEMORY);
+    check_unanswered_questions(CKR_HOST_MEMORY);
     end_library();
     setenv("OSPREYRACK_JOURNAL", journal, 1);
     check_unanswered_query();
@@ -2117,7 +2117,7 @@ static void test_unanswered_queries(void) {
     ask_for_label(64, false, CKR_DEVICE_ERROR);
     write_error = 0;
     ask_for_label(2, false, CKR_DEVICE_ERROR);
-    check_unanswered_infos(CKR_DEVICE_ERROR);
+    check_unanswered_questions(CKR_DEVICE_ERROR);
     end_library();
     unsetenv("OSPREYRACK_JOURNAL");
 }

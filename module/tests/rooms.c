@@ -301,8 +301,8 @@ static void test_refused_outputs(void) {
     end_token();
 }
 
-/* What is told of slots, tokens and mechanisms, and random bytes. */
-static void test_refused_infos(void) {
+/* Questions about slots, tokens, mechanisms and sessions, and for random bytes. */
+static void test_refused_questions(void) {
     enum { ROOM = 256 };
     CK_SESSION_HANDLE session = begin_token();
     CK_ULONG count = 13;
@@ -494,7 +494,8 @@ static const struct test tests[] = {
     {"each query of attributes is answered by itself", test_attribute_codes},
     {"searches that find 2,500 objects", test_many_objects},
     {"a call that is refused leaves the places for its answers as they are", test_refused_outputs},
-    {"a call that is refused leaves the places for infos as they are", test_refused_infos},
+    {"a refused question about slots, tokens or mechanisms leaves its place as it is",
+     test_refused_questions},
     {"operations end by C_SessionCancel, and by a NULL mechanism", test_cancel},
     {"digests of messages above 2^20 bytes", test_large_digests},
     {"signatures of messages above 2^20 bytes", test_large_signatures},
