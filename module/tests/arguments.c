@@ -17,8 +17,11 @@ static void test_null_general(void) {
     EXPECT(CKR_ARGUMENTS_BAD, p11->C_GetTokenInfo(0, NULL));
     EXPECT(CKR_ARGUMENTS_BAD, p11->C_GetMechanismList(0, NULL, NULL));
     EXPECT(CKR_ARGUMENTS_BAD, p11->C_GetMechanismInfo(0, CKM_SHA256, NULL));
+    EXPECT(CKR_ARGUMENTS_BAD, p11->C_GetMechanismInfo(0, CKM_RSA_PKCS, NULL));
     EXPECT(CKR_ARGUMENTS_BAD, p11->C_WaitForSlotEvent(CKF_DONT_BLOCK, NULL, NULL));
     EXPECT(CKR_ARGUMENTS_BAD, p11->C_WaitForSlotEvent(CKF_DONT_BLOCK, &length, bytes));
+    EXPECT(CKR_ARGUMENTS_BAD, p11->C_WaitForSlotEvent(0, NULL, NULL));
+    EXPECT(CKR_ARGUMENTS_BAD, p11->C_WaitForSlotEvent(0, &length, bytes));
     EXPECT(CKR_OK, p11->C_CloseAllSessions(0));
     EXPECT(CKR_ARGUMENTS_BAD, p11->C_InitToken(0, NULL, 4, token_label));
     EXPECT(CKR_ARGUMENTS_BAD, p11->C_InitToken(0, NULL, 0, token_label));
@@ -187,6 +190,22 @@ static void test_no_bytes(void) {
     label = (CK_ATTRIBUTE){CKA_LABEL, NULL, 77};
     EXPECT(CKR_OK, p11->C_GetAttributeValue(session, object, &label, 1));
     CHECK(label.ulValueLen == 0);
+    end_token();
+}
+
+/* A number in a template, and the place for one, may have any address. */
+static void test_odd_addresses(void) {
+    CK_SESSION_HANDLE session = begin_token();
+    CK_MECHANISM generation = mechanism_of(CKM_GENERIC_SECRET_KEY_GEN);
+    CK_ULONG key_length = 16;
+    _Alignas(CK_ULONG) CK_BYTE place[1 + sizeof key_length];
+    CK_ATTRIBUTE value_length = {CKA_VALUE_LEN, place + 1, sizeof key_length};
+    CK_OBJECT_HANDLE key = 0;
+    memcpy(place + 1, &key_length, sizeof key_length);
+    EXPECT(CKR_OK, p11->C_GenerateKey(session, &generation, &value_length, 1, &key));
+    memset(place, 0, sizeof place);
+    EXPECT(CKR_OK, p11->C_GetAttributeValue(session, key, &value_length, 1));
+    CHECK(memcmp(place + 1, &key_length, sizeof key_length) == 0);
     end_token();
 }
 
@@ -477,6 +496,7 @@ static const struct test tests[] = {
     {"NULL pointers: digests, signing and verifying", test_null_operations},
     {"NULL pointers: updates above 2^20 bytes", test_null_updates},
     {"no bytes, at pointers that aren't NULL", test_no_bytes},
+    {"numbers in templates at odd addresses", test_odd_addresses},
     {"lengths of attributes that no memory can have", test_bad_lengths},
     {"lengths of messages, PINs and random bytes that no memory has", test_lengths_of_no_memory},
     {"templates of 2^20 attributes and of one more", test_most_attributes},

@@ -120,6 +120,8 @@ static void test_interfaces(void) {
     CHECK(interface->pFunctionList == p11);
     EXPECT(CKR_OK, p11->C_GetInterface(standard, &v2_40, &interface, 0));
     CHECK(is_interface(interface, "PKCS 11", 2, 40));
+    EXPECT(CKR_OK, p11->C_GetInterface(NULL, &v2_40, &interface, 0));
+    CHECK(is_interface(interface, "PKCS 11", 2, 40));
     EXPECT(CKR_OK, p11->C_GetInterface(vendor, &v1_0, &interface, 0));
     CHECK(is_interface(interface, "Vendor Ospreyrack", 1, 0));
     for (size_t i = 0; i < sizeof others / sizeof *others; i++)
@@ -260,6 +262,16 @@ static void test_order(void) {
     CK_TOKEN_INFO info;
     EXPECT(CKR_OK, p11->C_GetTokenInfo(0, &info));
     check((info.flags & CKF_TOKEN_INITIALIZED) == 0, "C_Initialize makes a new token");
+    end_token();
+}
+
+/* Another slot is refused before a pointer is looked at. */
+static void test_other_slot(void) {
+    begin_token();
+    for (size_t i = 0; i < FUNCTIONS; i++) {
+        if (is_one_of(functions[i].name, of_slot))
+            check_code(call_with(&functions[i], 1), CKR_SLOT_ID_INVALID, functions[i].name);
+    }
     end_token();
 }
 
@@ -533,6 +545,48 @@ static void test_failing_lock(void) {
     CHECK(destroyed == 1 && locks == unlocks);
 }
 
+/* ---- Functions that are given only zeros */
+
+static const char *const need_pointers[] = {
+    "C_GetInfo", "C_GetSlotList", "C_GetSlotInfo", "C_GetTokenInfo", "C_GetMechanismList",
+    "C_GetMechanismInfo", "C_WaitForSlotEvent", "C_InitToken", "C_InitPIN", "C_SetPIN",
+    "C_OpenSession", "C_GetSessionInfo", "C_Login", "C_CreateObject", "C_CopyObject",
+    "C_GetObjectSize", "C_FindObjects", "C_Digest", "C_DigestFinal", "C_Sign", "C_SignFinal",
+    "C_GenerateKey", NULL,
+};
+
+static const char *const without_session[] = {
+    "C_Initialize", "C_Finalize", "C_GetFunctionList", "C_GetInterface", "C_GetInterfaceList",
+    "C_CloseAllSessions", NULL,
+};
+
+/* A NULL pointer is refused before the session is looked at, which isn't open. Where nothing is
+ * wrong with the pointers, this is answered. */
+static void check_zeros(CK_RV expected) {
+    for (size_t i = 0; i < FUNCTIONS; i++) {
+        const char *name = functions[i].name;
+        if (!is_one_of(name, supported) || is_one_of(name, without_session))
+            continue;
+        CK_RV code = call_with_zeros(&functions[i]);
+        check_code(code, is_one_of(name, need_pointers) ? CKR_ARGUMENTS_BAD : expected, name);
+    }
+}
+
+/* In a token that answers calls, and in one that answers none any more, since the lock has failed
+ * between two pieces of an update. */
+static void test_zeros(void) {
+    CK_MECHANISM sha256 = mechanism_of(CKM_SHA256);
+    CK_C_INITIALIZE_ARGS arguments = mutex_arguments();
+    CK_SESSION_HANDLE session = begin_token_with(&arguments);
+    check_zeros(CKR_SESSION_HANDLE_INVALID);
+    EXPECT(CKR_OK, p11->C_DigestInit(session, &sha256));
+    locks_until_failure = 4;
+    EXPECT(CKR_GENERAL_ERROR, p11->C_DigestUpdate(session, large, LARGE));
+    CHECK(locks_until_failure == 0);
+    check_zeros(CKR_DEVICE_ERROR);
+    end_token();
+}
+
 static const struct test tests[] = {
     {"before C_Initialize and after C_Finalize; twice; a new token each time", test_order},
     {"the lists of functions have each function, and it is exported", test_lists},
@@ -540,6 +594,7 @@ static const struct test tests[] = {
     {"the list of interfaces has those that are given by name", test_interface_list},
     {"the vendor interface takes a key to another state", test_vendor_interface},
     {"a key goes through all states by their names", test_key_states},
+    {"another slot is refused before a pointer is looked at", test_other_slot},
     {"functions that aren't supported say so", test_unsupported},
     {"functions that aren't supported say so in a session, and write nothing",
      test_unsupported_in_session},
@@ -549,6 +604,8 @@ static const struct test tests[] = {
     {"the application's mutex functions are called in pairs, around every call",
      test_mutex_functions},
     {"an application's lock that fails", test_failing_lock},
+    {"NULL pointers are refused before the session is looked at, also where no call is answered",
+     test_zeros},
 };
 
 int main(int count, char **arguments) {

@@ -123,14 +123,18 @@ static int see_as_child(CK_SESSION_HANDLE session, CK_RV expected) {
     return p11->C_Finalize(NULL) == CKR_OK ? 0 : 5;
 }
 
+static int status_of(pid_t child) {
+    int status = -1;
+    waitpid(child, &status, 0);
+    return WIFEXITED(status) ? WEXITSTATUS(status) : -1;
+}
+
 static int run_child(CK_SESSION_HANDLE session, CK_RV expected) {
     fflush(NULL);
     pid_t child = fork();
     if (child == 0)
         _exit(see_as_child(session, expected));
-    int status = -1;
-    waitpid(child, &status, 0);
-    return WIFEXITED(status) ? WEXITSTATUS(status) : -1;
+    return status_of(child);
 }
 
 static void test_fork(void) {
@@ -143,6 +147,31 @@ static void test_fork(void) {
     CK_OBJECT_HANDLE object = create_data(session, "of the parent");
     EXPECT(CKR_OK, p11->C_DestroyObject(session, object));
     end_token();
+}
+
+/* A child calls none of the functions for its parent's mutex. */
+static int see_mutex_as_child(CK_SESSION_HANDLE session) {
+    CK_SESSION_INFO info;
+    int locks_before = locks, unlocks_before = unlocks;
+    if (p11->C_GetSessionInfo(session, &info) != CKR_CRYPTOKI_NOT_INITIALIZED)
+        return 1;
+    if (p11->C_Initialize(NULL) != CKR_OK || p11->C_Finalize(NULL) != CKR_OK)
+        return 2;
+    return locks == locks_before && unlocks == unlocks_before && destroyed == 0 ? 0 : 3;
+}
+
+static void test_fork_and_mutex(void) {
+    CK_SESSION_INFO info;
+    CK_C_INITIALIZE_ARGS arguments = mutex_arguments();
+    CK_SESSION_HANDLE session = begin_token_with(&arguments);
+    fflush(NULL);
+    pid_t child = fork();
+    if (child == 0)
+        _exit(see_mutex_as_child(session));
+    CHECK(status_of(child) == 0);
+    EXPECT(CKR_OK, p11->C_GetSessionInfo(session, &info));
+    end_token();
+    CHECK(destroyed == 1 && locks == unlocks);
 }
 
 /* Standard error goes to a file until `read_errors`. */
@@ -765,6 +794,7 @@ static const struct test tests[] = {
      test_cancelled_beginning_and_end},
     {"a thread that can't be cancelled can't be so after calls either", test_forbidden_cancel},
     {"a child of a fork begins anew, and its parent goes on", test_fork},
+    {"a child of a fork calls no function for its parent's mutex", test_fork_and_mutex},
     {"a child of a fork leaves the parent's file and its lock alone", test_fork_with_file},
     {"what the system says when the file is closed is told", test_failed_close},
     {"bad environment variables, and then none", test_bad_variables},

@@ -40,6 +40,7 @@ static bool refuses_all; /* and all behind that one */
 static bool is_refused;
 static long live_allocations;
 static long live_bytes;
+static long allocations_made; /* also those that were given back */
 
 /* Whether the application's lock is taken, where `note_lock` is its function; and how many bytes
  * the largest allocation has under it. */
@@ -66,6 +67,7 @@ static bool refuses(void) {
 }
 
 static void *counted(void *memory) {
+    allocations_made += memory != NULL;
     live_allocations += memory != NULL;
     live_bytes += (long)malloc_usable_size(memory);
     return memory;
@@ -1215,19 +1217,28 @@ static void begin_longer_handle(void) {
         EXPECT(CKR_OK, p11->C_OpenSession(0, read_write, NULL, NULL, &session));
     }
     CHECK(session == 100);
+    EXPECT(CKR_OK, begin_digest(session));
+}
+
+/* An operation, and behind its start a call with a long line. */
+static void begin_with_long_line(void) {
+    static CK_BYTE value[PIECE];
+    CK_ATTRIBUTE label = {CKA_LABEL, value, sizeof value};
+    begin_sessions(1);
+    EXPECT(CKR_OK, begin_digest(session));
+    EXPECT(CKR_OBJECT_HANDLE_INVALID, p11->C_SetAttributeValue(session, 1, &label, 1));
 }
 
 /* Where the second piece finds no memory, there is room all the same for the line by which the
- * operation ends, which is longer than those before: the token goes on. */
-static void test_longer_handle(void) {
+ * operation ends: the token goes on. */
+static void check_ended_updates(void (*prepare)(void)) {
     struct result result;
     size_t ended = 0;
     long number = 0;
     bool was_refused = true;
     setenv("OSPREYRACK_JOURNAL", journal, 1);
     for (; was_refused && number < MOST_GROWTHS; number++) {
-        begin_longer_handle();
-        EXPECT(CKR_OK, digest_init(&result));
+        prepare();
         refuses_all = true;
         refuse_after(number);
         CK_RV code = p11->C_DigestUpdate(session, large, sizeof large);
@@ -1242,6 +1253,16 @@ static void test_longer_handle(void) {
     }
     CHECK(ended > 0 && number < MOST_GROWTHS);
     unsetenv("OSPREYRACK_JOURNAL");
+}
+
+/* The line that ends the operation is longer than those before. */
+static void test_longer_handle(void) {
+    check_ended_updates(begin_longer_handle);
+}
+
+/* The room for lines that a long one has taken stays. */
+static void test_long_line_before(void) {
+    check_ended_updates(begin_with_long_line);
 }
 
 /* Updates of one and of two whole pieces: no piece is empty, and the journal in memory is cut again
@@ -1309,18 +1330,20 @@ static void test_random_without_lock(void) {
     EXPECT(CKR_OK, p11->C_Finalize(NULL));
 }
 
+static const struct growth long_calls[] = {
+    {"C_Digest", digest_long, {digest_init}},
+    {"C_DigestUpdate", digest_update_long, {digest_init}},
+    {"C_Sign", sign_long, {sign_init}},
+    {"C_SignUpdate", sign_update_long, {sign_init}},
+    {"C_Verify", verify_long, {begin_long_verify}},
+    {"C_VerifyUpdate", verify_update_long, {verify_init}},
+};
+
 /* Under the lock the call with a long message needs no memory of the message's length. */
-static void test_copies_without_lock(void) {
-    static const struct growth long_calls[] = {
-        {"C_Digest", digest_long, {digest_init}},
-        {"C_DigestUpdate", digest_update_long, {digest_init}},
-        {"C_Sign", sign_long, {sign_init}},
-        {"C_SignUpdate", sign_update_long, {sign_init}},
-        {"C_Verify", verify_long, {begin_long_verify}},
-        {"C_VerifyUpdate", verify_update_long, {verify_init}},
-    };
+static void check_copies(void) {
     struct result result;
     for (size_t i = 0; i < sizeof long_calls / sizeof *long_calls; i++) {
+        unlink(journal);
         begin_with_notes();
         check_code(long_calls[i].before[0](&result), CKR_OK, long_calls[i].name);
         largest_under_lock = 0;
@@ -1328,6 +1351,56 @@ static void test_copies_without_lock(void) {
         check(largest_under_lock < sizeof long_text, long_calls[i].name);
         EXPECT(CKR_OK, p11->C_Finalize(NULL));
     }
+}
+
+static void test_copies_without_lock(void) {
+    check_copies();
+}
+
+static const char script[] = "growths.script";
+
+/* A script with a line so long that the file's text has room for those of the calls. */
+static void write_long_line(void) {
+    static char digits[4 * sizeof long_text + 1];
+    memset(digits, '6', sizeof digits - 1);
+    write_file(script, "1 DigestUpdate 1 ", "w");
+    write_file(script, digits, "a");
+    write_file(script, " -> b3\n", "a");
+}
+
+static void test_lines_without_lock(void) {
+    write_long_line();
+    setenv("OSPREYRACK_SCRIPT", script, 1);
+    setenv("OSPREYRACK_JOURNAL", journal, 1);
+    check_copies();
+    unsetenv("OSPREYRACK_SCRIPT");
+    unsetenv("OSPREYRACK_JOURNAL");
+}
+
+/* ---- Random bytes of a seed */
+
+/* The first ones behind this call, which finds no memory where that is said. */
+static struct result drawn_behind(call before, bool lacks_memory) {
+    struct result drawn, ignored;
+    memset(&drawn, 0, sizeof drawn);
+    begin_library();
+    session = log_in();
+    refuse_after(lacks_memory ? 0 : -1);
+    CK_RV code = before(&ignored);
+    CHECK(stop_refusing() == lacks_memory);
+    EXPECT(lacks_memory ? CKR_HOST_MEMORY : CKR_OK, code);
+    EXPECT(CKR_OK, generate_random(&drawn));
+    end_library();
+    return drawn;
+}
+
+/* A key that finds no memory takes its bytes, too. */
+static void test_seed_without_memory(void) {
+    struct result first = drawn_behind(get_session_info, false);
+    struct result behind_key = drawn_behind(generate_key, false);
+    struct result behind_refused = drawn_behind(generate_key, true);
+    CHECK(is_same_result(&behind_refused, &behind_key));
+    CHECK(!is_same_result(&first, &behind_key));
 }
 
 /* ---- A search that the module makes in pieces */
@@ -1408,9 +1481,13 @@ static void check_long_template(CK_RV code, long live_before) {
     check(live_bytes - live_before < LONG_TEMPLATE, "what the template took is given back");
 }
 
-static void test_many_attributes(void) {
+static void fill_attributes(void) {
     for (int i = 0; i < ATTRIBUTES; i++)
         attributes[i] = (CK_ATTRIBUTE){CKA_PRIVATE, &no, sizeof no};
+}
+
+static void test_many_attributes(void) {
+    fill_attributes();
     begin_library();
     get_many_token_infos();
     long live_before = live_bytes;
@@ -1429,6 +1506,33 @@ static void test_long_value(void) {
     long live_before = live_bytes;
     check_long_template(p11->C_FindObjectsInit(1, &label, 1), live_before);
     check_long_template(p11->C_CreateObject(1, &label, 1, &object), live_before);
+    end_library();
+}
+
+/* A list grows in few steps, however long it is. */
+static void test_steps_of_growth(void) {
+    enum { MOST_STEPS = 100 };
+    fill_attributes();
+    begin_library();
+    allocations_made = 0;
+    EXPECT(CKR_SESSION_HANDLE_INVALID, p11->C_GetAttributeValue(1, 1, attributes, ATTRIBUTES));
+    CHECK(allocations_made < MOST_STEPS);
+    end_library();
+}
+
+/* The room for the line of a call stays, and is at most twice as long as the line. What the journal
+ * in memory takes up to its next cut is less than MORE. */
+static void test_room_for_line(void) {
+    enum { LINE = 2 * LONG_TEMPLATE, MORE = 1 << 19 };
+    static CK_BYTE value[LONG_TEMPLATE];
+    CK_ATTRIBUTE label = {CKA_LABEL, value, sizeof value};
+    begin_library();
+    get_many_token_infos();
+    long live_before = live_bytes;
+    EXPECT(CKR_SESSION_HANDLE_INVALID, p11->C_SetAttributeValue(1, 1, &label, 1));
+    get_many_token_infos();
+    long room = live_bytes - live_before;
+    CHECK(room > LINE && room < 2 * LINE + MORE);
     end_library();
 }
 
@@ -1574,7 +1678,6 @@ static void read_errors(char *said, size_t room) {
 
 /* ---- Growths of C_Initialize */
 
-static const char script[] = "growths.script";
 static const char kept[] = "kept.cases";
 
 static const char label_of_script[] = "a label                         ";
@@ -1980,8 +2083,33 @@ static void check_unanswered_query(void) {
     ask_for_label(2, true, CKR_HOST_MEMORY);
 }
 
+/* Asks of the token, its mechanisms and the session where each allocation is refused, or where no
+ * line can be written. The places for the answers stay as they are. */
+static void check_unanswered_questions(CK_RV expected) {
+    enum { ROOM = 256 };
+    CK_ULONG count = 13;
+    uint8_t *memory = guarded_new(ROOM);
+    void *out = memory;
+    refuses_all = true;
+    refuse_after(expected == CKR_HOST_MEMORY ? 0 : -1);
+    CK_RV codes[] = {
+        p11->C_GetTokenInfo(0, out),
+        p11->C_GetMechanismList(0, out, &count),
+        p11->C_GetSessionInfo(session, out),
+        p11->C_GenerateRandom(session, out, ROOM),
+    };
+    stop_refusing();
+    refuses_all = false;
+    for (size_t i = 0; i < sizeof codes / sizeof *codes; i++)
+        check_code(codes[i], expected, "a call that asks of the token");
+    CHECK(guarded_is_intact(memory, ROOM, 0) && count == 13);
+    guarded_free(memory);
+}
+
 static void test_unanswered_queries(void) {
     check_unanswered_query();
+    take_room();
+    check_unanswered_questions(CKR_HOST_MEMORY);
     end_library();
     setenv("OSPREYRACK_JOURNAL", journal, 1);
     check_unanswered_query();
@@ -1989,6 +2117,7 @@ static void test_unanswered_queries(void) {
     ask_for_label(64, false, CKR_DEVICE_ERROR);
     write_error = 0;
     ask_for_label(2, false, CKR_DEVICE_ERROR);
+    check_unanswered_questions(CKR_DEVICE_ERROR);
     end_library();
     unsetenv("OSPREYRACK_JOURNAL");
 }
@@ -2491,17 +2620,24 @@ static const struct test tests[] = {
      test_verify_pieces_by_lines},
     {"an update in pieces that ends without memory, in a session of a longer handle",
      test_longer_handle},
+    {"an update in pieces that ends without memory, behind a call with a long line",
+     test_long_line_before},
     {"updates of one and of two whole pieces", test_whole_pieces},
     {"the system's random bytes are drawn while the lock is free", test_random_without_lock},
     {"a long message is copied while the lock is free", test_copies_without_lock},
+    {"the line of a long message is written while the lock is free", test_lines_without_lock},
+    {"a generated key that finds no memory takes its bytes of a seed", test_seed_without_memory},
     {"a search whose second piece finds no memory gives the first, typed", test_searches},
     {"a search whose second piece finds no memory gives the first, by lines",
      test_searches_by_lines},
     {"memory for 200,000 attributes is given back", test_many_attributes},
     {"memory for a value of 1.5 MiB is given back", test_long_value},
+    {"a list of 200,000 attributes grows in few steps", test_steps_of_growth},
+    {"the room for a long line stays, and isn't more than twice as long", test_room_for_line},
     {"the journal in memory is cut at 1,000 entries", test_thousandth_entry},
     {"a thread's first call without memory", test_first_call},
-    {"a query that isn't answered leaves its buffer and its length", test_unanswered_queries},
+    {"a query that isn't answered leaves the places for its answer as they are",
+     test_unanswered_queries},
     {"a file to which another process adds before it is locked", test_file_of_another},
     {"a file whose descriptor isn't copied", test_copied_descriptor},
     {"a file of whole lines, which isn't cut off", test_needless_truncation},

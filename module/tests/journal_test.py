@@ -24,8 +24,12 @@ import time
 
 import support
 
+SLOT_ID_INVALID = 3
 GENERAL_ERROR = 5
 ARGUMENTS_BAD = 7
+NO_EVENT = 8
+NOT_PARALLEL = 0x51
+NOT_SUPPORTED = 0x54
 NOT_INITIALIZED = 0x190
 SEED_NOT_SUPPORTED = 0x120
 HOST_MEMORY = "2"
@@ -704,6 +708,40 @@ class Tests:
             self.checks.equal(self.module.call(name, *arguments), ARGUMENTS_BAD, f"C_{name}")
             self.checks.equal(read(path), before, f"the file behind C_{name}")
         self.end()
+
+    def test_without_token(self):
+        """What is answered without the token, or refused for its slot, doesn't stand in the
+        journal. A list of mechanisms stands in it whole, whatever the room for it is."""
+        path, zero, one = self.file("without_token.cases"), support.c_ulong(0), support.c_ulong(1)
+        out, count = (support.c_ubyte * 256)(), support.c_ulong(1)
+        flags, four, sha256 = (support.c_ulong(it) for it in [6, 4, 0x250])
+        self.begin(JOURNAL=path)
+        self.say_all(LOG_IN[:2])
+        before = read(path)
+        for name, arguments, code in [
+                ("GetInfo", [out], 0),
+                ("GetSlotList", [support.c_ubyte(1), out, support.byref(count)], 0),
+                ("GetSlotInfo", [zero, out], 0), ("GetMechanismInfo", [zero, sha256, out], 0),
+                ("WaitForSlotEvent", [one, out, None], NO_EVENT),
+                ("GetFunctionStatus", [one], NOT_PARALLEL),
+                ("DigestKey", [one, one], NOT_SUPPORTED),
+                ("GetTokenInfo", [one, out], SLOT_ID_INVALID),
+                ("GetMechanismList", [one, None, support.byref(count)], SLOT_ID_INVALID),
+                ("OpenSession", [one, flags, None, None, out], SLOT_ID_INVALID),
+                ("CloseAllSessions", [one], SLOT_ID_INVALID),
+                ("InitToken", [one, b"1234", four, out], SLOT_ID_INVALID)]:
+            self.checks.equal(self.module.call(name, *arguments), code, f"C_{name}")
+            self.checks.equal(read(path), before, f"the file behind C_{name}")
+        whole = self.module.say("1 GetMechanismList")
+        for place, room, code in [(None, 0, 0), (out, 0, support.BUFFER_TOO_SMALL),
+                                  (out, 12, support.BUFFER_TOO_SMALL)]:
+            count = support.c_ulong(room)
+            made = self.module.call("GetMechanismList", zero, place, support.byref(count))
+            self.checks.equal((made, count.value), (code, 13), f"a list with room for {room}")
+        self.end()
+        self.checks.equal(read(path).decode().split("\n")[-5:],
+                          [f"1 GetMechanismList -> {whole}"] * 4 + [""], "the last lines")
+        support.audit(self.checks, self.ck_cases, path)
 
     def test_quiet(self):
         """Calls write nothing to standard error, be they answered or refused."""
@@ -1758,7 +1796,8 @@ class Tests:
 TESTS = [Tests.test_file, Tests.test_counted_journals, Tests.test_mode, Tests.test_going_on,
          Tests.test_new_label, Tests.test_no_label, Tests.test_script,
          Tests.test_script_and_journal, Tests.test_only_reply, Tests.test_calls_beside,
-         Tests.test_callers, Tests.test_callers_of_child, Tests.test_bad_pointers, Tests.test_quiet,
+         Tests.test_callers, Tests.test_callers_of_child, Tests.test_bad_pointers,
+         Tests.test_without_token, Tests.test_quiet,
          Tests.test_cut_short, Tests.test_longest_line, Tests.test_parted_arrow,
          Tests.test_line_without_end, Tests.test_absent_script, Tests.test_failed_start,
          Tests.test_bad_variable_and_file,

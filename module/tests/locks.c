@@ -858,6 +858,11 @@ static CK_RV create_null(CK_VOID_PTR_PTR mutex) {
     return CKR_OK;
 }
 
+static CK_RV destroy_null(CK_VOID_PTR mutex) {
+    (void)mutex;
+    return CKR_MUTEX_BAD;
+}
+
 static CK_RV unlock_null(CK_VOID_PTR mutex) {
     (void)mutex;
     return CKR_MUTEX_NOT_LOCKED;
@@ -870,11 +875,11 @@ static CK_RV lock_null(CK_VOID_PTR mutex) {
 }
 
 /* What an application has as its mutex is its own affair. A call that was made is answered whatever
- * the function for unlocking says. */
+ * the functions for unlocking and destroying say. */
 static void test_mutex_that_is_null(void) {
     CK_C_INITIALIZE_ARGS arguments = {
         .CreateMutex = create_null,
-        .DestroyMutex = destroy_any,
+        .DestroyMutex = destroy_null,
         .LockMutex = lock_null,
         .UnlockMutex = unlock_null,
     };
@@ -885,6 +890,8 @@ static void test_mutex_that_is_null(void) {
     change = finalize;
     EXPECT(CKR_CRYPTOKI_NOT_INITIALIZED, ask_for_session());
     CHECK(locks_until_change == 0);
+    EXPECT(CKR_OK, p11->C_Initialize(&arguments));
+    EXPECT(CKR_OK, p11->C_Finalize(NULL));
 }
 
 /* The journal in memory is then long enough to be cut. */

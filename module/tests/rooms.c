@@ -301,6 +301,26 @@ static void test_refused_outputs(void) {
     end_token();
 }
 
+/* Questions about slots, tokens, mechanisms and sessions, and for random bytes. */
+static void test_refused_questions(void) {
+    enum { ROOM = 256 };
+    CK_SESSION_HANDLE session = begin_token();
+    CK_ULONG count = 13;
+    uint8_t *memory = guarded_new(ROOM);
+    void *out = memory;
+    EXPECT(CKR_ARGUMENTS_BAD, p11->C_GetSlotList(CK_TRUE, out, NULL));
+    EXPECT(CKR_SLOT_ID_INVALID, p11->C_GetSlotInfo(1, out));
+    EXPECT(CKR_SLOT_ID_INVALID, p11->C_GetTokenInfo(1, out));
+    EXPECT(CKR_SLOT_ID_INVALID, p11->C_GetMechanismList(1, out, &count));
+    EXPECT(CKR_SLOT_ID_INVALID, p11->C_GetMechanismInfo(1, CKM_SHA256, out));
+    EXPECT(CKR_MECHANISM_INVALID, p11->C_GetMechanismInfo(0, CKM_RSA_PKCS, out));
+    EXPECT(CKR_SESSION_HANDLE_INVALID, p11->C_GetSessionInfo(session + 1, out));
+    EXPECT(CKR_SESSION_HANDLE_INVALID, p11->C_GenerateRandom(session + 1, out, ROOM));
+    CHECK(guarded_is_intact(memory, ROOM, 0) && count == 13);
+    guarded_free(memory);
+    end_token();
+}
+
 /* ---- Operations */
 
 static void test_cancel(void) {
@@ -474,6 +494,8 @@ static const struct test tests[] = {
     {"each query of attributes is answered by itself", test_attribute_codes},
     {"searches that find 2,500 objects", test_many_objects},
     {"a call that is refused leaves the places for its answers as they are", test_refused_outputs},
+    {"a refused question about slots, tokens or mechanisms leaves its place as it is",
+     test_refused_questions},
     {"operations end by C_SessionCancel, and by a NULL mechanism", test_cancel},
     {"digests of messages above 2^20 bytes", test_large_digests},
     {"signatures of messages above 2^20 bytes", test_large_signatures},

@@ -282,15 +282,14 @@ static void *add_short_zeros(void *ignored) {
 /* An update that the module makes in three pieces, of zeros, too. */
 enum { LARGE_MESSAGE = 2 * LONGEST_MESSAGE + SHORT_PIECE };
 
-static CK_BYTE digest_of_zeros[32];
+static CK_BYTE large_zeros[LARGE_MESSAGE], digest_of_zeros[32];
 
 static void digest_large_zeros(CK_SESSION_HANDLE session) {
-    static CK_BYTE zeros[LARGE_MESSAGE];
     CK_MECHANISM sha256 = mechanism_of(CKM_SHA256);
     CK_BYTE out[32];
     CK_ULONG room = sizeof out;
     EXPECT(CKR_OK, p11->C_DigestInit(session, &sha256));
-    EXPECT(CKR_OK, p11->C_DigestUpdate(session, zeros, sizeof zeros));
+    EXPECT(CKR_OK, p11->C_DigestUpdate(session, large_zeros, sizeof large_zeros));
     EXPECT(CKR_OK, p11->C_DigestFinal(session, out, &room));
     CHECK(memcmp(out, digest_of_zeros, sizeof out) == 0);
 }
@@ -472,6 +471,56 @@ static void *finalize(void *ignored) {
     return ignored;
 }
 
+/* ---- A lock that fails between the pieces of an update, beside calls */
+
+/* The last of this many locks that the thread takes fails. */
+static _Thread_local int locks_until_failure;
+
+static CK_RV lock_or_fail(CK_VOID_PTR mutex) {
+    if (locks_until_failure > 0 && --locks_until_failure == 0)
+        return CKR_MUTEX_BAD;
+    return lock_mutex(mutex);
+}
+
+static void begin_with_failing_locks(void) {
+    CK_C_INITIALIZE_ARGS functions = {
+        .CreateMutex = create_mutex,
+        .DestroyMutex = destroy_mutex,
+        .LockMutex = lock_or_fail,
+        .UnlockMutex = unlock_mutex,
+    };
+    EXPECT(CKR_OK, p11->C_Initialize(&functions));
+    log_in();
+}
+
+static atomic_int failed_updates;
+
+/* The lock is taken three times for a long piece, so it fails behind the first one. From then on no
+ * call of any thread is answered. */
+static void *update_and_fail(void *ignored) {
+    CK_MECHANISM sha256 = mechanism_of(CKM_SHA256);
+    CK_SESSION_HANDLE session = 0;
+    CK_RV code = p11->C_OpenSession(0, read_write, NULL, NULL, &session);
+    if (code == CKR_OK)
+        code = p11->C_DigestInit(session, &sha256);
+    locks_until_failure = 4;
+    if (code == CKR_OK)
+        code = p11->C_DigestUpdate(session, large_zeros, sizeof large_zeros);
+    locks_until_failure = 0;
+    check(code == CKR_GENERAL_ERROR || code == CKR_DEVICE_ERROR, "an update whose lock fails");
+    failed_updates += code == CKR_GENERAL_ERROR;
+    return ignored;
+}
+
+static void *ask_until_error(void *ignored) {
+    CK_TOKEN_INFO info;
+    CK_RV code = CKR_OK;
+    while (code == CKR_OK)
+        code = p11->C_GetTokenInfo(0, &info);
+    EXPECT(CKR_DEVICE_ERROR, code);
+    return ignored;
+}
+
 /* ---- Lives of the library: two threads finalize it and initialize it anew, again and again, and
  * others make calls without pause. The standard leaves undefined what C_Finalize does beside calls.
  * Here each call is made before it, or is answered CKR_CRYPTOKI_NOT_INITIALIZED, or is made in
@@ -647,7 +696,7 @@ static void use_last_life(void) {
     EXPECT(CKR_CRYPTOKI_NOT_INITIALIZED, p11->C_Finalize(NULL));
 }
 
-/* ---- Tests. The library stays initialized from the first to the last but two. */
+/* ---- Tests. The library stays initialized from the first to the last but three. */
 
 static void test_initialize(void) {
     run_threads(initialize, initialize);
@@ -735,6 +784,16 @@ static void test_finalize(void) {
     }
 }
 
+static void test_failing_locks(void) {
+    begin_with_failing_locks();
+    failed_updates = 0;
+    run_threads(update_and_fail, ask_until_error);
+    CHECK(failed_updates > 0);
+    end_token();
+    begin_with_failing_locks();
+    end_token();
+}
+
 /* The two threads end with C_Initialize, so with one more C_Finalize all lives have ended. */
 static void test_lives(void) {
     if (token_file[0] != '\0')
@@ -767,6 +826,7 @@ static const struct test tests[] = {
     {"threads make calls, and others fork", test_forks},
     {"threads log in and out; C_Finalize", test_logins},
     {"threads finalize the library, and others make calls", test_finalize},
+    {"a lock fails between the pieces of an update, and others make calls", test_failing_locks},
     {"threads make calls through many lives of the library", test_lives},
 };
 
